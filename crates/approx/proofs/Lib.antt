@@ -1,0 +1,4 @@
+pub mod Laws
+pub mod Climbing
+pub mod Rounding
+pub mod Steadiness

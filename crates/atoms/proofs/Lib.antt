@@ -1,0 +1,6 @@
+pub mod Digits
+pub mod Inclusion
+pub mod Counting
+pub mod Collecting
+pub mod Lacking
+pub mod Ordering
