@@ -26,7 +26,6 @@ climb-keeps P k h (rests e) = h
 climb-keeps {f} {c} P k h (goes n r) = climb-keeps P k (k c h) r
 
 module _ {m : Meaning} (laws : Lawful m) where
-
   -- sure grows with its lower, and as its upper shrinks; may the other way round
   pub sure-up : {l k u : ℕ} → Within l k → Within k u → Within (m .sure l u) (m .sure k u)
   sure-up {l} {k} {u} p q = laws .precise l k u u p q (within-refl u) .0
@@ -61,7 +60,7 @@ module _ {m : Meaning} (laws : Lawful m) where
   pub upper-in : {l d u : ℕ} → Within l (m .may l l) → Within l u → Within (m .may l u) u → Climbs (λ c. m .may l c) l d → Within d u
   upper-in {l} {d} {u} a p q r =
       climb-keeps (λ x. Within l x × Within x u) (λ x h. (within-trans a (may-up (within-refl l) (h .0)), within-trans (may-up (h .0) (h .1)) q))
-        (within-refl l, p) r .1
+      (within-refl l, p) r .1
 
 -- ---- climbing as a loop does it
 -- the climb to a lower has come to c: a question under u, within what follows it, and on the way from no atom
@@ -77,7 +76,6 @@ pub record UpperWay (m : Meaning) (l c : ℕ) : Type 0 where
   pub leads : (d : ℕ) → Climbs (λ x. m .may l x) c d → Climbs (λ x. m .may l x) l d
 
 module _ {m : Meaning} (laws : Lawful m) where
-
   pub lower-start : (u : ℕ) → LowerWay m u 0
   lower-start u = record { inside = zero-within u; rises = zero-within (m .sure 0 u); leads = λ d r. r }
 

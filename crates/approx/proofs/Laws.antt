@@ -22,7 +22,6 @@ module _ {X : Type 0} (G : Ghosts X)
     (below : (a : X) (l u : ℕ) → Within l u → u < 2 ^ G .width a → (G .sure a l u < 2 ^ G .width a) × (G .may a l u < 2 ^ G .width a))
     (ignores : (a : X) (l u : ℕ) → Within (clipped (G .width a) l) (clipped (G .width a) u) → (G .sure a l u ≡ G .sure a (clipped (G .width a) l) (clipped (G .width a) u)) × (G .may a l u ≡ G .may a (clipped (G .width a) l) (clipped (G .width a) u)))
     (a : X) where
-
   cut : ℕ → ℕ
   cut s = clipped (G .width a) s
 

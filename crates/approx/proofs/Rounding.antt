@@ -21,13 +21,12 @@ pub record Sound (m : Meaning) (b : Bounds) : Type 0 where
   pub prudent : (x : ℕ) → Within x (b .upper) → Within (m .sure x (b .upper)) x → Within (b .lower) x
 
 module _ {m : Meaning} (laws : Lawful m) where
-
   pub first-sound : Sound m (first-bounds m)
   first-sound = record {
     inside = zero-within (all-below (m .width));
     grows = zero-within (m .sure 0 (all-below (m .width)));
     shrinks = below-within (m .width) (laws .below 0 (all-below (m .width)) (zero-within (all-below (m .width))) .1);
-    prudent = λ x p q. zero-within x
+    prudent = λ x p q. zero-within x;
   }
 
   -- what the two climbs of a round ask of the bounds
@@ -48,8 +47,8 @@ module _ {m : Meaning} (laws : Lawful m) where
     pub next-inside : Proper c
     next-inside =
         climbing.lower-least laws next-shrinks
-          (within-trans (climbing.sure-in-may laws (within-refl (c .upper)) (within-refl (c .upper)) next-shrinks) (within-trans (climbing.may-down laws next-over (within-refl (c .upper))) (within-eq (climbing.climb-rests (n .upper)))))
-          (n .lower)
+        (within-trans (climbing.sure-in-may laws (within-refl (c .upper)) (within-refl (c .upper)) next-shrinks) (within-trans (climbing.may-down laws next-over (within-refl (c .upper))) (within-eq (climbing.climb-rests (n .upper)))))
+        (n .lower)
 
     pub next-grows : Within (b .lower) (c .lower)
     next-grows = s .prudent (c .lower) (climbing.lower-in laws (sound-up s) (n .lower)) (within-eq (climbing.climb-rests (n .lower)))
@@ -59,7 +58,7 @@ module _ {m : Meaning} (laws : Lawful m) where
       inside = next-inside;
       grows = within-trans (within-eq (sym (climbing.climb-rests (n .lower)))) (climbing.sure-down laws next-inside next-shrinks);
       shrinks = within-trans (climbing.may-down laws next-grows next-inside) (within-eq (climbing.climb-rests (n .upper)));
-      prudent = λ x p q. climbing.lower-least laws (within-trans p next-shrinks) (within-trans (climbing.sure-down laws p next-shrinks) q) (n .lower)
+      prudent = λ x p q. climbing.lower-least laws (within-trans p next-shrinks) (within-trans (climbing.sure-down laws p next-shrinks) q) (n .lower);
     }
 
   pub rounds-sound : {n : ℕ} {b : Bounds} → Rounds m n b → Sound m b
@@ -78,11 +77,13 @@ rounds-one begins begins = refl
 rounds-one {m} {c = c} (goes-on r p) (goes-on s q) = next-one p (subst (λ x. NextBounds m x c) (sym (rounds-one r s)) q)
 
 pub settles-one : {m : Meaning} {b c : Bounds} → Settles m b → Settles m c → b ≡ c
-settles-one {m} {b} {c} s t = elim (cases-eq (s .rounds) (t .rounds))
-  [ inl e ↦ rounds-one (s .reached) (subst (λ (n : ℕ). Rounds m n c) (sym e) (t .reached))
-  | inr n ↦ elim (cases-lt (s .rounds) (t .rounds))
-      [ inl k ↦ absurd (t .earliest (s .rounds) b k (s .reached) (s .resting))
-      | inr k ↦ absurd (s .earliest (t .rounds) c (omega arith) (t .reached) (t .resting)) ] ]
+settles-one {m} {b} {c} s t = elim (cases-eq (s .rounds) (t .rounds)) [
+  | inl e ↦ rounds-one (s .reached) (subst (λ (n : ℕ). Rounds m n c) (sym e) (t .reached))
+  | inr n ↦ elim (cases-lt (s .rounds) (t .rounds)) [
+    | inl k ↦ absurd (t .earliest (s .rounds) b k (s .reached) (s .resting))
+    | inr k ↦ absurd (s .earliest (t .rounds) c (omega arith) (t .reached) (t .resting))
+  ]
+]
 
 -- ---- settling as a loop does it
 -- settling has come to b after some rounds, none of which rested
@@ -97,9 +98,10 @@ settle-start m = record { rounds = 0; reached = begins; moving = λ k c h r n. o
 module _ {m : Meaning} {b c : Bounds} (w : SettleWay m b) (n : NextBounds m b c) where
   -- where the bounds move, none up to here rested
   still-moving : (b ≡ c → ⊥) → Moving m (suc (w .rounds))
-  still-moving f k d h r q = elim (cases-eq k (w .rounds))
-    [ inl e ↦ (let same : d ≡ b = rounds-one (subst (λ (j : ℕ). Rounds m j d) e r) (w .reached) in f (next-one (subst (λ x. NextBounds m x x) same q) n))
-    | inr d′ ↦ w .moving k d (omega arith) r q ]
+  still-moving f k d h r q = elim (cases-eq k (w .rounds)) [
+    | inl e ↦ (let same : d ≡ b = rounds-one (subst (λ (j : ℕ). Rounds m j d) e r) (w .reached) in f (next-one (subst (λ x. NextBounds m x x) same q) n))
+    | inr d′ ↦ w .moving k d (omega arith) r q
+  ]
 
   pub settle-turn : (b ≡ c → ⊥) → SettleWay m c
   settle-turn f = record { rounds = suc (w .rounds); reached = goes-on (w .reached) n; moving = still-moving f }
@@ -115,9 +117,10 @@ module _ {m : Meaning} {b c : Bounds} (w : SettleWay m b) (n : NextBounds m b c)
       let s = rounds-sound laws (w .reached) in
       let p = within-le (next-grows laws s n) in
       let q = within-le (next-shrinks laws s n) in
-      elim (cases-eq (b .lower) (c .lower))
-      [ inl e ↦ elim (cases-eq (b .upper) (c .upper)) [ inl d ↦ absurd (f (same-bounds b c e d)) | inr d ↦ omega arith ]
-      | inr e ↦ omega arith ]
+      elim (cases-eq (b .lower) (c .lower)) [
+        | inl e ↦ elim (cases-eq (b .upper) (c .upper)) [ inl d ↦ absurd (f (same-bounds b c e d)) | inr d ↦ omega arith ]
+        | inr e ↦ omega arith
+      ]
 
 -- settling is never crossed
 pub settled-uncrossed : {m : Meaning} → Lawful m → Crosses m → ⊥

@@ -14,7 +14,6 @@ use Rattle.approx.proofs.Climbing as climbing
 use Rattle.approx.proofs.Rounding as rounding
 
 module _ {m : Meaning} (laws : Lawful m) {z : ℕ} (t : Stable m z) where
-
   -- a stable interpretation within bounds is within the next: what z has of the new upper is kept by sure, so it is all of z
   stable-next : {b c : Bounds} → rounding.Sound m b → NextBounds m b c → Between b z → Between c z
   stable-next {b} {c} s n h =
@@ -25,7 +24,7 @@ module _ {m : Meaning} (laws : Lawful m) {z : ℕ} (t : Stable m z) where
       let ly : Within (b .lower) y = within-and (h .0) (rounding.next-over laws s n) in
       let inz : Within (m .sure y z) z = within-trans (climbing.sure-up laws yz (within-refl z)) (within-eq (t .fixed)) in
       let inu : Within (m .sure y z) (c .upper) =
-          within-trans (climbing.sure-down laws (within-refl y) yz) (within-trans (within-eq (laws .exact y)) (within-trans (laws .precise (b .lower) y y (c .upper) ly (within-refl y) yu .1) (within-eq (climbing.climb-rests (n .upper))))) in
+      within-trans (climbing.sure-down laws (within-refl y) yz) (within-trans (within-eq (laws .exact y)) (within-trans (laws .precise (b .lower) y y (c .upper) ly (within-refl y) yu .1) (within-eq (climbing.climb-rests (n .upper))))) in
       let e : y ≡ z = t .least y yz (within-and inz inu) in
       (low, within-trans (within-eq (sym e)) yu)
 

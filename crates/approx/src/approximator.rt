@@ -9,7 +9,9 @@ use atoms::Interpretation;
 // The laws ask the least that the engine needs: they speak of bounds, never of a lower that is not within its upper.
 pub trait Approximator {
     ghost width: { Self → ℕ };
+
     ghost sure: { Self → ℕ → ℕ → ℕ };
+
     ghost may: { Self → ℕ → ℕ → ℕ };
 
     // there is an atom, and there are at most 64

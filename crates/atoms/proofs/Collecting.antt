@@ -34,16 +34,18 @@ passed false n i h = absurd (lacks-not 0 i (digit-of-zero i) h)
 pub collected-in : (p : ℕ → Bool) (n i : ℕ) → i < n → p i ≡ true → Has (collected p n) i
 unfolding collected
 collected-in p zero i h e = absurd (omega arith)
-collected-in p (suc n) i h e = elim (cases-eq i n)
-  [ inl q ↦ has-or-r (collected p n) (cond (p n) (2 ^ n) 0) i (subst (λ (x : ℕ). Has (cond (p x) (2 ^ x) 0) i) q (passing (p i) i e))
-  | inr d ↦ has-or-l (collected p n) (cond (p n) (2 ^ n) 0) i (collected-in p n i (omega arith) e) ]
+collected-in p (suc n) i h e = elim (cases-eq i n) [
+  | inl q ↦ has-or-r (collected p n) (cond (p n) (2 ^ n) 0) i (subst (λ (x : ℕ). Has (cond (p x) (2 ^ x) 0) i) q (passing (p i) i e))
+  | inr d ↦ has-or-l (collected p n) (cond (p n) (2 ^ n) 0) i (collected-in p n i (omega arith) e)
+]
 
 pub collected-from : (p : ℕ → Bool) (n i : ℕ) → Has (collected p n) i → (i < n) × (p i ≡ true)
 unfolding collected
 collected-from p zero i h = absurd (lacks-not 0 i (digit-of-zero i) h)
-collected-from p (suc n) i h = elim (has-or-cases (collected p n) (cond (p n) (2 ^ n) 0) i h)
-  [ inl a ↦ (let r = collected-from p n i a in (omega (arith, r .0), r .1))
-  | inr b ↦ (let o = passed (p n) n i b in (omega (arith, o .1), subst (λ (x : ℕ). p x ≡ true) (o .1) (o .0))) ]
+collected-from p (suc n) i h = elim (has-or-cases (collected p n) (cond (p n) (2 ^ n) 0) i h) [
+  | inl a ↦ (let r = collected-from p n i a in (omega (arith, r .0), r .1))
+  | inr b ↦ (let o = passed (p n) n i b in (omega (arith, o .1), subst (λ (x : ℕ). p x ≡ true) (o .1) (o .0)))
+]
 
 cond-small : (b : Bool) (n : ℕ) → cond b (2 ^ n) 0 < 2 ^ suc n
 cond-small true n = omega (arith, pow-suc 2 n, pow-pos n)
@@ -57,8 +59,8 @@ collected-below p (suc n) = or-lt (suc n) (collected p n) (cond (p n) (2 ^ n) 0)
 -- a set whose atoms are those that pass is what is collected
 pub collected-is : (p : ℕ → Bool) (n s : ℕ) → ((i : ℕ) → Has s i → (i < n) × (p i ≡ true)) → ((i : ℕ) → i < n → p i ≡ true → Has s i) → s ≡ collected p n
 collected-is p n s f g = ext s (collected p n) (λ i. same-digit s (collected p n) i
-  (λ h. let r = f i h in collected-in p n i (r .0) (r .1))
-  (λ h. let r = collected-from p n i h in g i (r .0) (r .1)))
+    (λ h. let r = f i h in collected-in p n i (r .0) (r .1))
+    (λ h. let r = collected-from p n i h in g i (r .0) (r .1)))
 
 -- ---- how many
 pub how-many-same : (p q : ℕ → Bool) (n : ℕ) → ((i : ℕ) → i < n → p i ≡ q i) → how-many p n ≡ how-many q n
@@ -73,9 +75,10 @@ how-many-up p zero = omega arith
 how-many-up p (suc n) = omega (arith, how-many-up p n)
 
 low-one : (s : ℕ) → s % 2 ≡ cond (has s 0) 1 0
-low-one s = elim (has-or-lacks s 0)
-  [ inl h ↦ sym (digit-zero s) ∙ h ∙ sym (ap (λ (b : Bool). cond b 1 0) (eq-eqb (digit s 0) 1 h))
-  | inr e ↦ sym (digit-zero s) ∙ e ∙ sym (ap (λ (b : Bool). cond b 1 0) (ne-eqb (digit s 0) 1 (λ h. omega arith))) ]
+low-one s = elim (has-or-lacks s 0) [
+  | inl h ↦ sym (digit-zero s) ∙ h ∙ sym (ap (λ (b : Bool). cond b 1 0) (eq-eqb (digit s 0) 1 h))
+  | inr e ↦ sym (digit-zero s) ∙ e ∙ sym (ap (λ (b : Bool). cond b 1 0) (ne-eqb (digit s 0) 1 (λ h. omega arith)))
+]
 
 -- the ones of a set are the atoms that it has
 pub ones-how-many : (n s : ℕ) → s < 2 ^ n → ones s ≡ how-many (has s) n
@@ -88,9 +91,10 @@ ones-how-many (suc n) s h =
     ∙ sym (how-many-up (has s) n)
 
 has-collected : (p : ℕ → Bool) (n i : ℕ) → i < n → has (collected p n) i ≡ p i
-has-collected p n i h = elim (cases-bool (p i))
-  [ inl e ↦ eq-eqb (digit (collected p n) i) 1 (collected-in p n i h e) ∙ sym e
-  | inr e ↦ ne-eqb (digit (collected p n) i) 1 (λ k. both-ways (p i) e (collected-from p n i k .1)) ∙ sym e ]
+has-collected p n i h = elim (cases-bool (p i)) [
+  | inl e ↦ eq-eqb (digit (collected p n) i) 1 (collected-in p n i h e) ∙ sym e
+  | inr e ↦ ne-eqb (digit (collected p n) i) 1 (λ k. both-ways (p i) e (collected-from p n i k .1)) ∙ sym e
+]
 
 -- as many are collected as pass
 pub ones-collected : (p : ℕ → Bool) (n : ℕ) → ones (collected p n) ≡ how-many p n

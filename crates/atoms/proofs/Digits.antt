@@ -48,9 +48,10 @@ pub has-and : (a b i : ℕ) → Has a i → Has b i → Has (bitAnd a b) i
 has-and a b i p q = and-digit a b i ∙ ap₂ bitAnd p q
 
 pub has-and-l : (a b i : ℕ) → Has (bitAnd a b) i → Has a i
-has-and-l a b i h = elim (has-or-lacks a i)
-  [ inl p ↦ p
-  | inr e ↦ absurd (lacks-not (bitAnd a b) i (and-digit a b i ∙ ap (λ (x : ℕ). bitAnd x (digit b i)) e) h) ]
+has-and-l a b i h = elim (has-or-lacks a i) [
+  | inl p ↦ p
+  | inr e ↦ absurd (lacks-not (bitAnd a b) i (and-digit a b i ∙ ap (λ (x : ℕ). bitAnd x (digit b i)) e) h)
+]
 
 and-zero : (d e : ℕ) → d < 2 → e ≡ 0 → bitAnd d e ≡ 0
 and-zero zero e h p = refl
@@ -58,9 +59,10 @@ and-zero (suc zero) e h p = ap (bitAnd 1) p
 and-zero (suc (suc d)) e h p = absurd (omega arith)
 
 pub has-and-r : (a b i : ℕ) → Has (bitAnd a b) i → Has b i
-has-and-r a b i h = elim (has-or-lacks b i)
-  [ inl p ↦ p
-  | inr e ↦ absurd (lacks-not (bitAnd a b) i (and-digit a b i ∙ and-zero (digit a i) (digit b i) (digit-lt a i) e) h) ]
+has-and-r a b i h = elim (has-or-lacks b i) [
+  | inl p ↦ p
+  | inr e ↦ absurd (lacks-not (bitAnd a b) i (and-digit a b i ∙ and-zero (digit a i) (digit b i) (digit-lt a i) e) h)
+]
 
 -- has of the union
 or-one-r : (d : ℕ) → d < 2 → bitOr d 1 ≡ 1
@@ -80,9 +82,10 @@ pub has-or-r : (a b i : ℕ) → Has b i → Has (bitOr a b) i
 has-or-r a b i h = or-digit a b i ∙ ap (bitOr (digit a i)) h ∙ or-one-r (digit a i) (digit-lt a i)
 
 pub has-or-cases : (a b i : ℕ) → Has (bitOr a b) i → (Has a i) ⊎ (Has b i)
-has-or-cases a b i h = elim (has-or-lacks a i)
-  [ inl p ↦ inl p
-  | inr e ↦ inr (sym (or-digit a b i ∙ ap (λ (x : ℕ). bitOr x (digit b i)) e) ∙ h) ]
+has-or-cases a b i h = elim (has-or-lacks a i) [
+  | inl p ↦ inl p
+  | inr e ↦ inr (sym (or-digit a b i ∙ ap (λ (x : ℕ). bitOr x (digit b i)) e) ∙ h)
+]
 
 -- ---- extensionality
 pub digit-zero : (s : ℕ) → digit s 0 ≡ s % 2
@@ -90,7 +93,7 @@ digit-zero s = ap (λ (x : ℕ). x % 2) (native.Mathlib.Nat.div-one s)
 
 pub empty-zero : (b : ℕ) → ((i : ℕ) → digit b i ≡ 0) → b ≡ 0
 empty-zero = bin-ind (λ (n : ℕ). ((i : ℕ) → digit n i ≡ 0) → n ≡ 0) (λ _. refl)
-  (λ n ih f.
+    (λ n ih f.
     let h : n / 2 ≡ 0 = ih (λ i. sym (digit-suc n i) ∙ f (suc i)) in
     let p : n % 2 ≡ 0 = sym (digit-zero n) ∙ f 0 in
     omega arith)
@@ -100,16 +103,17 @@ digit-of-zero i = ap (λ (x : ℕ). x % 2) (div-eq-of-lt (pow-pos i))
 
 pub ext : (a b : ℕ) → ((i : ℕ) → digit a i ≡ digit b i) → a ≡ b
 ext = bin-ind (λ (n : ℕ). (b : ℕ) → ((i : ℕ) → digit n i ≡ digit b i) → n ≡ b)
-  (λ b f. sym (empty-zero b (λ i. sym (f i) ∙ digit-of-zero i)))
-  (λ n ih b f.
+    (λ b f. sym (empty-zero b (λ i. sym (f i) ∙ digit-of-zero i)))
+    (λ n ih b f.
     let h : n / 2 ≡ b / 2 = ih (b / 2) (λ i. sym (digit-suc n i) ∙ f (suc i) ∙ digit-suc b i) in
     let p : n % 2 ≡ b % 2 = sym (digit-zero n) ∙ f 0 ∙ digit-zero b in
     omega arith)
 
 pub same-digit : (a b i : ℕ) → (Has a i → Has b i) → (Has b i → Has a i) → digit a i ≡ digit b i
-same-digit a b i f g = elim (has-or-lacks a i)
-  [ inl p ↦ p ∙ sym (f p)
-  | inr e ↦ e ∙ sym (lacks-from b i (λ q. lacks-not a i e (g q))) ]
+same-digit a b i f g = elim (has-or-lacks a i) [
+  | inl p ↦ p ∙ sym (f p)
+  | inr e ↦ e ∙ sym (lacks-from b i (λ q. lacks-not a i e (g q)))
+]
 
 -- ---- the atoms below a width
 pub low-digit : (s i w : ℕ) → s < 2 ^ w → w ≤ i → digit s i ≡ 0
@@ -134,6 +138,7 @@ not-digit (suc w) x (suc i) h k =
   where
     halves : (2 ^ suc w - 1 - x) / 2 ≡ 2 ^ w - 1 - x / 2
     halves = omega (arith, pow-suc 2 w)
+
     below : x / 2 < 2 ^ w
     below = omega (arith, pow-suc 2 w)
 
@@ -142,9 +147,10 @@ pub not-has : (w x i : ℕ) → x < 2 ^ w → i < w → digit x i ≡ 0 → Has 
 not-has w x i h k e = not-digit w x i h k ∙ ap (λ (d : ℕ). 1 - d) e
 
 pub not-lacks : (w x i : ℕ) → x < 2 ^ w → Has (2 ^ w - 1 - x) i → digit x i ≡ 0
-not-lacks w x i h p = elim (cases-lt i w)
-  [ inl k ↦ omega (arith, not-digit w x i h k)
-  | inr k ↦ low-digit x i w h k ]
+not-lacks w x i h p = elim (cases-lt i w) [
+  | inl k ↦ omega (arith, not-digit w x i h k)
+  | inr k ↦ low-digit x i w h k
+]
 
 pub mod-digit : (s w i : ℕ) → i < w → digit (s % 2 ^ w) i ≡ digit s i
 mod-digit s w i h =

@@ -74,12 +74,16 @@ pub within-half : {a b : ℕ} → Within a b → Within (a / 2) (b / 2)
 within-half {a} {b} p = record { at = λ i h. sym (digit-suc b i) ∙ p .at (suc i) (digit-suc a i ∙ h) }
 
 pub within-low : {a b : ℕ} → Within a b → a % 2 ≤ b % 2
-within-low {a} {b} p = elim (has-or-lacks a 0)
-  [ inl h ↦ omega (arith, sym (digit-zero a) ∙ h, sym (digit-zero b) ∙ p .at 0 h)
-  | inr e ↦ omega (arith, sym (digit-zero a) ∙ e) ]
+within-low {a} {b} p = elim (has-or-lacks a 0) [
+  | inl h ↦ omega (arith, sym (digit-zero a) ∙ h, sym (digit-zero b) ∙ p .at 0 h)
+  | inr e ↦ omega (arith, sym (digit-zero a) ∙ e)
+]
 
 -- ---- below a width
 pub within-mod : {a b : ℕ} (w : ℕ) → Within a b → Within (a % 2 ^ w) (b % 2 ^ w)
-within-mod {a} {b} w p = record { at = λ i h. elim (cases-lt i w)
-  [ inl k ↦ mod-digit b w i k ∙ p .at i (sym (mod-digit a w i k) ∙ h)
-  | inr k ↦ absurd (lacks-not (a % 2 ^ w) i (low-digit (a % 2 ^ w) i w (mod-lt a (pow-pos w)) k) h) ] }
+within-mod {a} {b} w p = record {
+  at = λ i h. elim (cases-lt i w) [
+    | inl k ↦ mod-digit b w i k ∙ p .at i (sym (mod-digit a w i k) ∙ h)
+    | inr k ↦ absurd (lacks-not (a % 2 ^ w) i (low-digit (a % 2 ^ w) i w (mod-lt a (pow-pos w)) k) h)
+  ];
+}

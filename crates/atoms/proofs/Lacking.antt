@@ -26,18 +26,21 @@ module _ (a b : ℕ) (ha : a < 2 ^ 64) (hb : b < 2 ^ 64) where
   lacking-in i p e = has-and a (2 ^ 64 - 1 - b) i p (not-has 64 b i hb (below-wide 64 a i ha p) e)
 
   pub lacking-none : lacking a b ≡ 0 → Within a b
-  lacking-none e = record { at = λ i p. elim (has-or-lacks b i)
-    [ inl q ↦ q
-    | inr n ↦ absurd (lacks-not (lacking a b) i (ap (λ (x : ℕ). digit x i) e ∙ digit-of-zero i) (lacking-in i p n)) ] }
+  lacking-none e = record {
+    at = λ i p. elim (has-or-lacks b i) [
+      | inl q ↦ q
+      | inr n ↦ absurd (lacks-not (lacking a b) i (ap (λ (x : ℕ). digit x i) e ∙ digit-of-zero i) (lacking-in i p n))
+    ];
+  }
 
 -- the open atoms
 pub open-collected : (b : Bounds) → b .lower < 2 ^ 64 → b .upper < 2 ^ 64 → lacking (b .upper) (b .lower) ≡ collected (is-open b) 64
 open-collected b hl hu = collected-is (is-open b) 64 (lacking (b .upper) (b .lower))
-  (λ i h.
+    (λ i h.
     let p = lacking-has (b .upper) (b .lower) hu hl i h in
     let e = lacking-lacks (b .upper) (b .lower) hu hl i h in
     (below-wide 64 (b .upper) i hu p, and-from (has (b .upper) i) (not (has (b .lower) i)) (eq-eqb (digit (b .upper) i) 1 p) (ap not (ne-eqb (digit (b .lower) i) 1 (λ q. lacks-not (b .lower) i e q)))))
-  (λ i k t.
+    (λ i k t.
     let q = and-parts (has (b .upper) i) (not (has (b .lower) i)) t in
     lacking-in (b .upper) (b .lower) hu hl i (eqb-true (digit (b .upper) i) 1 (q .0)) (lacks-from (b .lower) i (λ h. eqb-false (digit (b .lower) i) 1 (not-true (has (b .lower) i) (q .1)) h)))
 

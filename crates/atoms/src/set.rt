@@ -37,11 +37,7 @@ pub fn full(width: u8) -> Interpretation
 pub fn only(atom: u8) -> Interpretation
     ensures { λ r. ⌜ r ≡ clipped 64 (2 ^ atom) ⌝ }
 {
-    if atom < 64 {
-        1 << atom
-    } else {
-        0
-    }
+    if atom < 64 { 1 << atom } else { 0 }
 }
 
 // The lowest atom of the set, if it has one.

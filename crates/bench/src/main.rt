@@ -17,7 +17,16 @@ use std::io;
 const RELAYS: usize = 10;
 
 const NAMES: [&str; 10] = [
-    "mains", "battery", "lamp", "standby", "coil_a", "coil_b", "horn", "fog", "siren", "charger",
+    "mains",
+    "battery",
+    "lamp",
+    "standby",
+    "coil_a",
+    "coil_b",
+    "horn",
+    "fog",
+    "siren",
+    "charger",
 ];
 
 // What attacks each relay, one digit for each of the others from the right.

@@ -8,11 +8,11 @@ ghost use Rattle.approx.specs.Meanings.{meaning};
 ghost use Rattle.approx.specs.Stability.{Stable};
 ghost use Rattle.approx.specs.Settling.{Rounds};
 ghost use Rattle.engine.specs.Boards.{Granted, Denied};
-use super::settling::bounds_after;
-use super::settling::settle;
 use approx::Approximator;
 use atoms::Bounds;
 use faults::BenchFault;
+use solver::bounds_after;
+use solver::settle;
 
 // A board that is read: nothing of it is settled.
 #[derive(Drop)]

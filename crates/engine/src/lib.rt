@@ -1,6 +1,5 @@
-// The engine, written once over any approximator: settling, and the boards that it moves through.
+// The boards, as types that move: what is read is settled, by any approximator, and a refusal hands it back.
 mod board;
-mod settling;
 
 pub use board::Board;
 pub use board::Refused;

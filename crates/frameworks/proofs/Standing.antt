@@ -39,9 +39,11 @@ pub unattacked-all : (t : RelayTable) (w s i : ℕ) → i < w → Stands t s i �
 unattacked-all t w s i k p = collected-in (stands t s) w i k (then-stands t s i p)
 
 pub unattacked-down : (t : RelayTable) (w : ℕ) {s z : ℕ} → Within s z → Within (unattacked t w z) (unattacked t w s)
-unattacked-down t w {s} {z} p = record { at = λ i h.
-  let c = unattacked-has t w z i h in
-  unattacked-all t w s i (c .0) (record { line = c .1 .line; free = λ j x y. c .1 .free j x (p .at j y) }) }
+unattacked-down t w {s} {z} p = record {
+  at = λ i h.
+      let c = unattacked-has t w z i h in
+      unattacked-all t w s i (c .0) (record { line = c .1 .line; free = λ j x y. c .1 .free j x (p .at j y) });
+}
 
 -- ---- the laws
 pub framework-below : (f : Framework) (s : ℕ) → unattacked (f .table) (width-of f) (clipped (width-of f) s) < 2 ^ width-of f

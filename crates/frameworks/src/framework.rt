@@ -49,10 +49,12 @@ pub impl Approximator for Framework as FrameworkApproximator {
     }
 
     fn sure(&self, bounds: Bounds) -> Interpretation {
-        self.table.unattacked(self.atom_count(), self.below(bounds.upper))
+        self.table
+            .unattacked(self.atom_count(), self.below(bounds.upper))
     }
 
     fn may(&self, bounds: Bounds) -> Interpretation {
-        self.table.unattacked(self.atom_count(), self.below(bounds.lower))
+        self.table
+            .unattacked(self.atom_count(), self.below(bounds.lower))
     }
 }

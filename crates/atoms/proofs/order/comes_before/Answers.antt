@@ -10,6 +10,7 @@ returns-in-None c = ((λ t. absurd (false≢true t)), (λ r. absurd (equal-not-b
 pub returns-in-Some : need.returns-in-Some
 returns-in-Some c =
     let low = c .in-Some .ensures tt .1 in
-    let d = digit (c .args .b) (c .in-Some .atom) in
-    ((λ t. before-by low (eqb-true d 1 (sym (c .has .ensures) ∙ t))),
-     (λ r. c .has .ensures ∙ eq-eqb d 1 (by-before low r)))
+    let d = digit (c .args .b) (c .in-Some .atom) in (
+      (λ t. before-by low (eqb-true d 1 (sym (c .has .ensures) ∙ t))),
+      (λ r. c .has .ensures ∙ eq-eqb d 1 (by-before low r)),
+    )

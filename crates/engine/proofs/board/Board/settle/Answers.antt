@@ -17,7 +17,7 @@ returns-in-Ok g c =
       settled = s;
       only = λ b t. settles-one t s;
       stable-within = λ z t. stable-between (laws g (c .args .self .pile)) t (s .reached);
-      uncrossed = λ x. settled-uncrossed (laws g (c .args .self .pile)) x
+      uncrossed = λ x. settled-uncrossed (laws g (c .args .self .pile)) x;
     }
 
 pub returns-in-Err : need.returns-in-Err
@@ -27,5 +27,5 @@ returns-in-Err g c =
       fault = x .0;
       board-back = refl;
       crossed = x .1;
-      unsettled = λ b t. settled-uncrossed (laws g (c .args .self .pile)) (x .1)
+      unsettled = λ b t. settled-uncrossed (laws g (c .args .self .pile)) (x .1);
     }

@@ -24,5 +24,5 @@ returns c =
     record {
       is = e;
       has = λ i h. unattacked-has t w s i (subst (λ (x : ℕ). Has x i) e h);
-      all = λ i k p. subst (λ (x : ℕ). Has x i) (sym e) (unattacked-all t w s i k p)
+      all = λ i k p. subst (λ (x : ℕ). Has x i) (sym e) (unattacked-all t w s i k p);
     }

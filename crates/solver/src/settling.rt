@@ -66,7 +66,7 @@ fn first_bounds<A: Approximator>(pile: &A) -> Bounds
 }
 
 // The bounds after some rounds.
-pub(crate) fn bounds_after<A: Approximator>(pile: &A, rounds: u32) -> Bounds
+pub fn bounds_after<A: Approximator>(pile: &A, rounds: u32) -> Bounds
     ensures { λ r. ⌜ Rounds (meaning A·Approximator (now (pile .entry))) rounds r ⌝ }
 {
     let mut bounds = first_bounds(pile);
@@ -84,7 +84,7 @@ fn repeats(bounds: Bounds, next: Bounds) -> bool
 }
 
 // The earliest bounds that equal their successor, or the fault of bounds that cross before that.
-pub(crate) fn settle<A: Approximator>(pile: &A) -> Result<Bounds, BenchFault>
+pub fn settle<A: Approximator>(pile: &A) -> Result<Bounds, BenchFault>
     ensures { λ r. ⌜ Cases r
         (λ b. Settles (meaning A·Approximator (now (pile .entry))) b)
         (λ f. (f ≡ Crossed) × Crosses (meaning A·Approximator (now (pile .entry)))) ⌝ }

@@ -1,7 +1,7 @@
 use Prim.Native.Nat.{_+_, _-_, _^_}
 use Rattle.approx.specs.Meanings.{meaning}
 use Rattle.approx.proofs.Rounding.{SettleWay}
-use Rattle.engine.proofs.settling.settle.Given as given
+use Rattle.solver.proofs.settling.settle.Given as given
 
 abbrev pub Inv-settle : given.InvT-settle
 Inv-settle g l = SettleWay (meaning (g .A·Approximator) (l .pile)) (l .bounds)

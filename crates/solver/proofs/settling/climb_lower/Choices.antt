@@ -1,7 +1,7 @@
 use Prim.Native.Nat.{_-_, _^_}
 use Rattle.approx.specs.Meanings.{meaning}
 use Rattle.approx.proofs.Climbing.{LowerWay}
-use Rattle.engine.proofs.settling.climb_lower.Given as given
+use Rattle.solver.proofs.settling.climb_lower.Given as given
 
 abbrev pub Inv-climb : given.InvT-climb
 Inv-climb g l = LowerWay (meaning (g .A·Approximator) (l .pile)) (l .upper) (l .lower)

@@ -1,8 +1,8 @@
 use Rattle.approx.specs.Meanings.{meaning}
 use Rattle.approx.proofs.Laws.{Lawful, lawful}
 use Rattle.approx.proofs.Rounding.{rounds-sound, sound-up, sound-down}
-use Rattle.engine.proofs.settling.next_bounds.Given as given
-use Rattle.engine.proofs.settling.next_bounds.Needs as need
+use Rattle.solver.proofs.settling.next_bounds.Given as given
+use Rattle.solver.proofs.settling.next_bounds.Needs as need
 
 laws : (g : given.Over) (a : g .A .Denot) → Lawful (meaning (g .A·Approximator) a)
 laws g a = let met = g .A·Approximator·met in lawful (g .A·Approximator) (met .wide) (met .exact) (met .precise) (met .below) (met .ignores) a

@@ -3,7 +3,7 @@ use Prim.Native.Nat.{ℕ}
 use native.Mathlib.Numerals.{add-one}
 use Rattle.approx.specs.Meanings.{meaning}
 use Rattle.approx.specs.Settling.{Rounds, begins, goes-on}
-use Rattle.engine.proofs.settling.bounds_after.Needs as need
+use Rattle.solver.proofs.settling.bounds_after.Needs as need
 
 pub loop-round-holds : need.loop-round-holds
 loop-round-holds g c = let m = meaning (g .A·Approximator) (c .args .pile .now) in subst (Rounds m 0) (sym (c .first-bounds-bounds .ensures)) begins

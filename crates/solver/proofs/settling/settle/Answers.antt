@@ -6,8 +6,8 @@ use Rattle.approx.specs.Meanings.{meaning}
 use Rattle.approx.proofs.Laws.{Lawful, lawful}
 use Rattle.approx.proofs.Rounding.{SettleWay}
 use Rattle.approx.proofs.Rounding as way
-use Rattle.engine.proofs.settling.settle.Given as given
-use Rattle.engine.proofs.settling.settle.Needs as need
+use Rattle.solver.proofs.settling.settle.Given as given
+use Rattle.solver.proofs.settling.settle.Needs as need
 
 laws : (g : given.Over) (a : g .A .Denot) → Lawful (meaning (g .A·Approximator) a)
 laws g a = let met = g .A·Approximator·met in lawful (g .A·Approximator) (met .wide) (met .exact) (met .precise) (met .below) (met .ignores) a
