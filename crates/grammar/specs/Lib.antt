@@ -1,0 +1,9 @@
+pub mod Wrongs
+pub mod Said
+pub mod Counts
+pub mod Names
+pub mod Loads
+pub mod Rules
+pub mod Relays
+pub mod Lines
+pub mod Verdicts
