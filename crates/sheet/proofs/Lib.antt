@@ -1,0 +1,5 @@
+mod Stepping
+mod Fresh
+mod Sectioning
+mod Naming
+mod Announcing
