@@ -1,6 +1,6 @@
 -- A name line: one name, lawful and not given before.
 use mathlib.Core.List.{List}
-use Prim.Native.Nat.{ℕ}
+use Prim.Native.Nat.{ℕ, min}
 use lib.ListN.{length}
 use Rattle.std.specs.declared.option.Option.{Option}
 use Rattle.std.specs.declared.option.Option.the-variants.{Some, None}
@@ -14,9 +14,9 @@ use Rattle.grammar.specs.declared.name.NameState.the-variants as name
 use Rattle.grammar.specs.declared.wrong.Wrong.{Wrong}
 use Rattle.grammar.specs.declared.wrong.Wrong.the-variants as wrong
 
--- The place of a name that begins at a position of the text.
+-- The place of a name that begins at a position of the text; a name has at most 16 bytes, and a place can tell up to 255.
 abbrev pub place-at : ℕ → List ℕ → Place
-place-at from name = record { from = from; len = length name }
+place-at from name = record { from = from; len = min 255 (length name) }
 
 -- A name that no atom has yet gets its place.
 abbrev pub new-name : ℕ → List ℕ → Option ℕ → Result NameState Wrong

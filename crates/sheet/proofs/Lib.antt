@@ -3,3 +3,6 @@ mod Fresh
 mod Sectioning
 mod Naming
 mod Announcing
+mod Opening
+mod Filling
+mod Concluding

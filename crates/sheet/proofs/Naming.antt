@@ -33,7 +33,7 @@ name-read text from places line = line-read (name-next (names-of text (take 64 p
 module _ (text : List ℕ) where
   names-step : (from : ℕ) (items : List Place) (left : List Numbered) (d : Numbered) (k : ℕ) → 0 < length left
       → names-read text from items (take (suc k) left)
-        ≡ onward (name-read text from items (getD left 0 d)) (λ row. names-read text (from + (length (getD left 0 d .bytes) + 1)) (items ++ row ∷ []) (take k (drop 1 left)))
+      ≡ onward (name-read text from items (getD left 0 d)) (λ row. names-read text (from + (length (getD left 0 d .bytes) + 1)) (items ++ row ∷ []) (take k (drop 1 left)))
   names-step from items [] d k h = absurd (omega arith)
   names-step from items (l ∷ ls) d k h = refl
 
@@ -84,5 +84,5 @@ module _ (text : List ℕ) where
               many = omega (arith, length-push (w .items) row, w .many);
               at = q ∙ ap (drop 1) (w .at) ∙ drop-drop 1 n all;
               same = ap₂ (λ (f : ℕ) (ls : List Numbered). names-read text f (w .items ++ row ∷ []) (take (count - (n + 1)) ls)) next q
-                ∙ ap (λ r. onward r (λ x. names-read text (from + (length (line .bytes) + 1)) (w .items ++ x ∷ []) (take (count - (n + 1)) (drop 1 left)))) e ∙ follows
+                  ∙ ap (λ r. onward r (λ x. names-read text (from + (length (line .bytes) + 1)) (w .items ++ x ∷ []) (take (count - (n + 1)) (drop 1 left)))) e ∙ follows;
             }

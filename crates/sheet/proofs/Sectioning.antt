@@ -66,5 +66,5 @@ module _ {R : Type 0} (one : List R → Numbered → Result R SheetFault) where
               many = omega (arith, length-push (w .items) row, w .many);
               at = q ∙ ap (drop 1) (w .at) ∙ drop-drop 1 n all;
               same = ap (λ ls. rows-read one (w .items ++ row ∷ []) (take (count - (n + 1)) ls)) q
-                ∙ ap (λ r. onward r (λ x. rows-read one (w .items ++ x ∷ []) (take (count - (n + 1)) (drop 1 left)))) e ∙ follows
+                  ∙ ap (λ r. onward r (λ x. rows-read one (w .items ++ x ∷ []) (take (count - (n + 1)) (drop 1 left)))) e ∙ follows;
             }

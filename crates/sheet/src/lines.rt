@@ -1,6 +1,8 @@
 // One line of each kind, read word by word from the left.
 ghost use mathlib.Core.Path.{_≡_};
+ghost use Prim.Native.Nat.{_≤_};
 ghost use lib.ListN.{take};
+ghost use Rattle.std.specs.Vec.{made};
 ghost use Rattle.text.specs.Lines.{words-left, as-line, end-of};
 ghost use Rattle.text.specs.Names.{names-of};
 ghost use Rattle.grammar.specs.declared.count.CountState.the-variants as counts;
@@ -32,7 +34,8 @@ use text::word::word_of;
 
 // The number of a line of the contents.
 pub(super) fn count_line(what: &[u8], low: u8, high: u8, mut line: Line) -> Result<u8, SheetFault>
-    ensures { λ r. ⌜ r ≡ reading (count-next (now (what .entry)) low high) count-done wrongs.Contents (end-of (as-line (line .entry))) counts.Start (words-left (line .entry)) ⌝ }
+    ensures gives { λ r. ⌜ r ≡ reading (count-next (now (what .entry)) low high) count-done wrongs.Contents (end-of (as-line (line .entry))) counts.Start (words-left (line .entry)) ⌝ }
+    ensures few { λ r. ⌜ made r (λ n. n ≤ high) ⌝ }
 {
     let end = line.end();
     let mut state = CountState::Start;
@@ -103,7 +106,11 @@ pub(super) fn rule_line(names: Names, count: u8, mut line: Line) -> Result<Rule,
 }
 
 // A relay line, where these stand above it.
-pub(super) fn relay_line(names: Names, above: &[RelayLine], mut line: Line) -> Result<RelayLine, SheetFault>
+pub(super) fn relay_line(
+    names: Names,
+    above: &[RelayLine],
+    mut line: Line,
+) -> Result<RelayLine, SheetFault>
     ensures { λ r. ⌜ r ≡ reading (relay-next (names-of (names .entry .text .now) (take 64 (names .entry .places .now))) (now (above .entry))) relay-done wrongs.Misplaced (end-of (as-line (line .entry))) relays.Start (words-left (line .entry)) ⌝ }
 {
     let end = line.end();

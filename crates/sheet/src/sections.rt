@@ -23,7 +23,11 @@ use tables::table::Rule;
 use text::reader::Reader;
 
 // So many name lines; a name's place is where its line begins.
-pub(super) fn read_names(text: &[u8], count: u8, reader: &mut Reader) -> Result<Rows<Place, 64>, SheetFault>
+pub(super) fn read_names(
+    text: &[u8],
+    count: u8,
+    reader: &mut Reader,
+) -> Result<Rows<Place, 64>, SheetFault>
     requires { ⌜ count ≤ 64 ⌝ ∗ ⌜ count ≤ length (lines-left (now reader)) ⌝ }
     ensures gives { λ r. ⌜ r ≡ laid-rows 64 zero-place (names-read (now (text .entry)) (now (reader .entry) .position) [] (take count (lines-left (now (reader .entry))))) ⌝ }
     ensures leaves { λ r. ⌜ made r (λ _. lines-left (now (reader .exit)) ≡ drop count (lines-left (now (reader .entry)))) ⌝ }
@@ -42,7 +46,11 @@ pub(super) fn read_names(text: &[u8], count: u8, reader: &mut Reader) -> Result<
 }
 
 // So many load lines.
-pub(super) fn read_loads(names: Names, count: u8, reader: &mut Reader) -> Result<Rows<Aggregate, 32>, SheetFault>
+pub(super) fn read_loads(
+    names: Names,
+    count: u8,
+    reader: &mut Reader,
+) -> Result<Rows<Aggregate, 32>, SheetFault>
     requires { ⌜ count ≤ 32 ⌝ ∗ ⌜ count ≤ length (lines-left (now reader)) ⌝ }
     ensures gives { λ r. ⌜ r ≡ laid-rows 32 zero-aggregate (rows-read (load-read (names-of (names .entry .text .now) (take 64 (names .entry .places .now)))) [] (take count (lines-left (now (reader .entry))))) ⌝ }
     ensures leaves { λ r. ⌜ made r (λ _. lines-left (now (reader .exit)) ≡ drop count (lines-left (now (reader .entry)))) ⌝ }
@@ -56,7 +64,12 @@ pub(super) fn read_loads(names: Names, count: u8, reader: &mut Reader) -> Result
 }
 
 // So many rule lines, where so many loads are announced.
-pub(super) fn read_rules(names: Names, loads: u8, count: u8, reader: &mut Reader) -> Result<Rows<Rule, 128>, SheetFault>
+pub(super) fn read_rules(
+    names: Names,
+    loads: u8,
+    count: u8,
+    reader: &mut Reader,
+) -> Result<Rows<Rule, 128>, SheetFault>
     requires { ⌜ count ≤ 128 ⌝ ∗ ⌜ count ≤ length (lines-left (now reader)) ⌝ }
     ensures gives { λ r. ⌜ r ≡ laid-rows 128 zero-rule (rows-read (rule-read (names-of (names .entry .text .now) (take 64 (names .entry .places .now))) loads) [] (take count (lines-left (now (reader .entry))))) ⌝ }
     ensures leaves { λ r. ⌜ made r (λ _. lines-left (now (reader .exit)) ≡ drop count (lines-left (now (reader .entry)))) ⌝ }
@@ -70,7 +83,11 @@ pub(super) fn read_rules(names: Names, loads: u8, count: u8, reader: &mut Reader
 }
 
 // So many relay lines, of which none is of an atom that has one above.
-pub(super) fn read_relays(names: Names, count: u8, reader: &mut Reader) -> Result<Rows<RelayLine, 64>, SheetFault>
+pub(super) fn read_relays(
+    names: Names,
+    count: u8,
+    reader: &mut Reader,
+) -> Result<Rows<RelayLine, 64>, SheetFault>
     requires { ⌜ count ≤ 64 ⌝ ∗ ⌜ count ≤ length (lines-left (now reader)) ⌝ }
     ensures gives { λ r. ⌜ r ≡ laid-rows 64 zero-relay (rows-read (relay-read (names-of (names .entry .text .now) (take 64 (names .entry .places .now)))) [] (take count (lines-left (now (reader .entry))))) ⌝ }
     ensures leaves { λ r. ⌜ made r (λ _. lines-left (now (reader .exit)) ≡ drop count (lines-left (now (reader .entry)))) ⌝ }

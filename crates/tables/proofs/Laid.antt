@@ -1,6 +1,7 @@
 -- What a caller needs of rows that hold a list: what is in use, whether there is room, and one more item.
 use mathlib.Core.Path.{_≡_, refl, sym, ap, _∙_}
 use mathlib.Core.Bool.{true, false}
+use mathlib.Core.Logic.{⊎-elim}
 use mathlib.Core.List.{List, [], _∷_, _++_}
 use Prim.Native.Nat.{ℕ, suc, _+_, _-_, _≤_, _<_}
 use native.Mathlib.Nat.{sub-zero}
@@ -8,7 +9,7 @@ use native.Mathlib.Omega.{arith}
 use lib.Dec.{ltb}
 use lib.ListN.{length, take, set, replicate}
 use Rattle.std.proofs.shelf.Lists.{take-at, set-at, length-push, append-assoc}
-use Rattle.std.proofs.shelf.Tests.{cond-true, cond-false, lt-ltb, le-ltb, and-from, and-left}
+use Rattle.std.proofs.shelf.Tests.{cond-true, cond-false, lt-ltb, le-ltb, ltb-true, and-from, and-left, cases-lt}
 use Rattle.tables.specs.declared.rows.Rows.{Rows}
 use Rattle.tables.specs.Rows.{laid, in-use, has-room, with-item, pushed}
 
@@ -53,3 +54,20 @@ module _ {T : Type 0} (N : ℕ) (zero : T) where
       -- and where there is none they stay
       pub full-laid : N ≤ length xs → pushed N (laid N zero xs) x ≡ laid N zero xs
       full-laid h = cond-false _ _ _ (no-room-laid h)
+
+-- the same of any rows that are known to hold a list, by what `push` answered
+module _ {T : Type 0} (N : ℕ) (zero : T) (rows : Rows T N) (xs : List T) (is : rows ≡ laid N zero xs) where
+  pub in-use-held : in-use N rows ≡ xs
+  in-use-held = ap (in-use N) is ∙ in-use-laid N zero xs
+
+  -- where every row can be counted, there is room exactly where the list is shorter than the rows are many
+  pub room-held : N ≤ 255 → has-room N rows ≡ ltb (length xs) N
+  room-held few =
+      ap (has-room N) is
+      ∙ ⊎-elim (λ (h : length xs < N). room-laid N zero xs few h ∙ sym (lt-ltb (length xs) N h)) (λ h. no-room-laid N zero xs h ∙ sym (le-ltb (length xs) N h)) (cases-lt (length xs) N)
+
+  pub pushed-held : N ≤ 255 → (x : T) → has-room N rows ≡ true → pushed N rows x ≡ laid N zero (xs ++ x ∷ [])
+  pushed-held few x room = ap (λ r. pushed N r x) is ∙ pushed-laid N zero xs x few (ltb-true (length xs) N (sym (room-held few) ∙ room))
+
+  pub refused-held : (x : T) → has-room N rows ≡ false → pushed N rows x ≡ rows
+  refused-held x none = cond-false _ _ _ none

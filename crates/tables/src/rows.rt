@@ -50,6 +50,13 @@ impl<T: Copy, const N: usize> Rows<T, N> {
         self.len() == 0
     }
 
+    // Whether there is room for one item more.
+    pub fn has_room(&self) -> bool
+        ensures { λ r. ⌜ r ≡ has-room N (now (self .entry)) ⌝ }
+    {
+        (self.count as usize) < N && self.count < u8::MAX
+    }
+
     // Puts an item behind the others; says no, and changes nothing, where there is no room for it.
     pub fn push(&mut self, item: T) -> bool
         ensures answers { λ r. ⌜ r ≡ has-room N (now (self .entry)) ⌝ }

@@ -4,6 +4,7 @@ use mathlib.Core.Bool.{Bool, true, false, cond}
 use mathlib.Core.Logic.{⊎-elim}
 use mathlib.Core.List.{List, [], _∷_}
 use Prim.Native.Nat.{ℕ, suc, _+_, _≤_, _<_}
+use native.Mathlib.Numerals.{add-one}
 use native.Mathlib.Omega.{arith}
 use lib.Dec.{eqb, ltb}
 use lib.ListN.{length, take, drop}
@@ -42,3 +43,8 @@ first-is-front stop (b ∷ bs) p ps e =
       | true ↦ λ q. let n : [] ≡ p = cc in ap (λ w. take (length w) (b ∷ bs)) (sym n) ∙ n
       | false ↦ λ q. front-onto b bs (pieces stop bs) (first-is-front stop bs) p ps q
     ] e
+
+-- a list that is not empty is one longer than what follows its first item, so a loop over lines ends
+pub one-fewer : {X : Type 0} (xs : List X) → true ≡ ltb 0 (length xs) → length (drop 1 xs) + 1 ≡ length xs
+one-fewer [] e = let z : _≡_ {A = ℕ} 0 1 = cc in absurd (omega arith)
+one-fewer (x ∷ xs) e = add-one (length xs)

@@ -1,5 +1,5 @@
 -- The lines of a text and the words of a line, with their numbers and spots.
-use mathlib.Core.Bool.{cond}
+use mathlib.Core.Bool.{Bool, cond}
 use mathlib.Core.List.{List, [], _∷_}
 use Prim.Native.Nat.{ℕ, _+_}
 use lib.Dec.{eqb, ltb}
@@ -68,9 +68,17 @@ no-line reader = record { number = reader .lines; bytes = [] }
 abbrev pub as-line : Line → Numbered
 as-line line = record { number = line .number; bytes = line .bytes .now }
 
--- Where a reader stands once it has read a line: past its bytes and its newline; at the end nothing moves.
+-- A reader has a line where one is left to read.
+abbrev pub has-line : Reader → Bool
+has-line reader = ltb 0 (length (lines-left reader))
+
+-- Reading a line counts it; at the end nothing is counted.
+abbrev pub lines-past : Reader → ℕ
+lines-past reader = cond (has-line reader) (reader .lines + 1) (reader .lines)
+
+-- Reading a line moves past its bytes and its newline; at the end nothing moves.
 abbrev pub position-past : Reader → List ℕ → ℕ
-position-past reader line = cond (ltb (reader .position) (length (whole reader))) (reader .position + (length line + 1)) (reader .position)
+position-past reader line = cond (has-line reader) (reader .position + (length line + 1)) (reader .position)
 
 -- The words of a line that are yet to be read.
 abbrev pub words-left : Line → List Placed

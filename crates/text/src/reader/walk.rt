@@ -2,10 +2,9 @@
 ghost use mathlib.Core.Path.{_≡_};
 ghost use mathlib.Core.List.{[], _∷_};
 ghost use Prim.Native.Nat.{ℕ, _+_, _<_, _≤_};
-ghost use lib.Dec.{ltb};
 ghost use lib.ListN.{length, getD, take, drop};
 ghost use Rattle.std.specs.declared.option.Option.the-variants.{Some, None};
-ghost use Rattle.text.specs.Lines.{whole, lines-left, no-line, as-line, position-past, pieces, words-left, end-of, as-placed};
+ghost use Rattle.text.specs.Lines.{whole, lines-left, no-line, as-line, has-line, lines-past, position-past, pieces, words-left, end-of, as-placed};
 use super::super::check::MAX_BYTES;
 use super::Line;
 use super::Piece;
@@ -65,7 +64,7 @@ impl<'a> Reader<'a> {
 
     // Whether a line is left to read.
     pub fn has_line(&self) -> bool
-        ensures { λ r. ⌜ r ≡ ltb 0 (length (lines-left (now (self .entry)))) ⌝ }
+        ensures { λ r. ⌜ r ≡ has-line (now (self .entry)) ⌝ }
     {
         self.position < self.text.len()
     }
@@ -76,7 +75,7 @@ impl<'a> Reader<'a> {
         ensures fresh { λ r. ⌜ r .position ≡ 0 ⌝ }
         ensures text { λ r. ⌜ whole (now (self .exit)) ≡ whole (now (self .entry)) ⌝ }
         ensures leaves { λ r. ⌜ lines-left (now (self .exit)) ≡ drop 1 (lines-left (now (self .entry))) ⌝ }
-        ensures counts { λ r. ⌜ now (self .exit) .lines ≡ r .number ⌝ }
+        ensures counts { λ r. ⌜ now (self .exit) .lines ≡ lines-past (now (self .entry)) ⌝ }
         ensures moves { λ r. ⌜ now (self .exit) .position ≡ position-past (now (self .entry)) (as-line r .bytes) ⌝ }
     {
         let text = self.text;

@@ -1,7 +1,8 @@
 use mathlib.Core.Path.{refl, sym, ap, _∙_}
+use mathlib.Core.Bool.{cond}
 use Prim.Native.Nat.{_+_}
+use lib.Dec.{ltb}
 use lib.ListN.{length, getD, drop}
-use Rattle.std.proofs.shelf.Tests.{cond-false, le-ltb}
 use Rattle.text.specs.Lines.{no-line}
 use Rattle.text.proofs.Cuts.{none-left}
 use Rattle.text.proofs.reader.Reader.line.Needs as need
@@ -14,6 +15,6 @@ returns-then-self-text c =
       fresh = refl;
       text = refl;
       leaves = none ∙ sym (ap (drop 1) none);
-      counts = refl;
-      moves = sym (cond-false _ _ _ (le-ltb (c .args .self .now .position) (length (c .args .self .now .text .now)) (c .if-self-text .taken)));
+      counts = sym (ap (λ ls. cond (ltb 0 (length ls)) (c .args .self .now .lines + 1) (c .args .self .now .lines)) none);
+      moves = sym (ap (λ ls. cond (ltb 0 (length ls)) (c .args .self .now .position + (0 + 1)) (c .args .self .now .position)) none);
     }
