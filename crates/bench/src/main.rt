@@ -1,60 +1,21 @@
-// The bench: settles the relay cabinet of a light and prints what it does, the bounds after each round and the state of
-// each relay. The cabinet is built in: a chain from the mains to the lamps, an even ring of two changer coils, and an odd
-// ring of horn, fog switch and siren.
-ghost use mathlib.Core.Path.{_≡_};
+// The bench: reads a sheet on standard input, settles its relay lines, and prints one line for each atom, its name and
+// whether it is on, off or open; or, for a refused sheet, the refusal and nothing else.
 use atoms::Bounds;
-use atoms::BoundsPartialEq;
-use atoms::Interpretation;
 use atoms::State;
-use atoms::has;
 use engine::Board;
 use faults::BenchFault;
+use faults::BenchFromSheet;
 use frameworks::Framework;
 use frameworks::FrameworkApproximator;
-use frameworks::RelayTable;
+use sheet::name_of;
+use sheet::read;
 use std::io;
+use std::io::Read;
+use std::io::Write;
+use tables::table::Table;
 
-const RELAYS: usize = 10;
-
-const NAMES: [&str; 10] = [
-    "mains",
-    "battery",
-    "lamp",
-    "standby",
-    "coil_a",
-    "coil_b",
-    "horn",
-    "fog",
-    "siren",
-    "charger",
-];
-
-// What attacks each relay, one digit for each of the others from the right.
-const ATTACKERS: [Interpretation; 10] = [
-    0b00_0000_0000, // mains: nothing
-    0b00_0000_0001, // battery: mains
-    0b00_0000_0010, // lamp: battery
-    0b00_0000_0100, // standby: lamp
-    0b00_0010_0000, // coil_a: coil_b
-    0b00_0001_0000, // coil_b: coil_a
-    0b00_1000_0000, // horn: fog
-    0b01_0000_0000, // fog: siren
-    0b00_0100_0000, // siren: horn
-    0b00_0100_0010, // charger: battery and horn
-];
-
-// The most rounds that are shown.
-const SHOWN: u32 = 64;
-
-fn cabinet() -> Framework
-    ensures { λ r. ⌜ r .width ≡ 10 ⌝ }
-{
-    let mut table = RelayTable::new();
-    for i in 0..RELAYS {
-        table.set_line(i as u8, ATTACKERS[i]);
-    }
-    Framework::new(RELAYS as u8, table)
-}
+// One byte more than the longest sheet, so that a longer one is seen to be too long.
+const ROOM: usize = 16385;
 
 fn word(state: State) -> &'static str {
     match state {
@@ -64,52 +25,13 @@ fn word(state: State) -> &'static str {
     }
 }
 
-fn print_names(rt: &LibcRuntime, set: Interpretation) -> io::Result<()> {
-    for i in 0..RELAYS {
-        if has(set, i as u8) {
-            let name = NAMES[i];
-            print!(rt, " {name}")?;
-        }
+// The settled bounds of a sheet's relay lines; the sheet is read into the table.
+fn settled(table: &mut Table, text: &[u8]) -> Result<Bounds, BenchFault> {
+    read(table, text)?;
+    match Board::new(Framework::of(table)).settle() {
+        Ok(board) => Ok(board.bounds()),
+        Err(refused) => Err(refused.fault),
     }
-    Ok(())
-}
-
-fn print_lines(rt: &LibcRuntime) -> io::Result<()> {
-    println!(rt, "settling {RELAYS} relays")?;
-    for i in 0..RELAYS {
-        let name = NAMES[i];
-        print!(rt, "{name} !")?;
-        print_names(rt, ATTACKERS[i])?;
-        println!(rt, "")?;
-    }
-    Ok(())
-}
-
-// The bounds after each round, up to those that repeat.
-fn print_rounds(rt: &LibcRuntime, board: &Board<Framework>) -> io::Result<()> {
-    let mut last = board.after(0);
-    for round in 1..SHOWN {
-        let bounds = board.after(round);
-        if bounds == last {
-            break;
-        }
-        print!(rt, "round {round}: on")?;
-        print_names(rt, bounds.lower)?;
-        print!(rt, "; open")?;
-        print_names(rt, bounds.open_atoms())?;
-        println!(rt, "")?;
-        last = bounds;
-    }
-    Ok(())
-}
-
-fn print_states(rt: &LibcRuntime, bounds: Bounds) -> io::Result<()> {
-    for i in 0..RELAYS {
-        let name = NAMES[i];
-        let state = word(bounds.state(i as u8));
-        println!(rt, "{name} {state}")?;
-    }
-    Ok(())
 }
 
 fn print_fault(rt: &LibcRuntime, fault: BenchFault) -> io::Result<()> {
@@ -121,12 +43,56 @@ fn print_fault(rt: &LibcRuntime, fault: BenchFault) -> io::Result<()> {
     println!(rt, "refused {number} {layer} {line} {column}")
 }
 
-fn main(rt: LibcRuntime) -> io::Result<()> {
-    print_lines(&rt)?;
-    let board = Board::new(cabinet());
-    print_rounds(&rt, &board)?;
-    match board.settle() {
-        Ok(settled) => print_states(&rt, settled.bounds()),
-        Err(refused) => print_fault(&rt, refused.fault),
+fn print_name(rt: &LibcRuntime, table: &Table, text: &[u8], atom: u8) -> io::Result<()> {
+    match name_of(table, text, atom) {
+        Ok(name) => rt.stdout().write_all(name),
+        Err(_) => Ok(()),
     }
+}
+
+fn print_states(rt: &LibcRuntime, table: &Table, text: &[u8], bounds: Bounds) -> io::Result<()> {
+    for atom in 0..table.width {
+        print_name(rt, table, text, atom)?;
+        let state = word(bounds.state(atom));
+        println!(rt, " {state}")?;
+    }
+    Ok(())
+}
+
+// Rules are read and not settled: nothing false is said of them.
+fn print_answer(rt: &LibcRuntime, text: &[u8]) -> io::Result<()> {
+    let mut table = Table::fresh();
+    match settled(&mut table, text) {
+        Ok(bounds) => {
+            if table.rules.is_empty() {
+                print_states(rt, &table, text, bounds)
+            } else {
+                println!(rt, "rules are not settled yet")
+            }
+        }
+        Err(fault) => print_fault(rt, fault),
+    }
+}
+
+// Fills the room from standard input, and says how much of it is filled.
+fn fill(rt: &LibcRuntime, room: &mut [u8]) -> io::Result<usize> {
+    let mut input = rt.stdin();
+    let mut filled: usize = 0;
+    for _ in 0..ROOM {
+        if filled >= room.len() {
+            break;
+        }
+        let got = input.read(&mut room[filled..])?;
+        if got == 0 {
+            break;
+        }
+        filled += got;
+    }
+    Ok(filled)
+}
+
+fn main(rt: LibcRuntime) -> io::Result<()> {
+    let mut room = [0; 16385];
+    let filled = fill(&rt, &mut room)?.min(ROOM);
+    print_answer(&rt, &room[0..filled])
 }

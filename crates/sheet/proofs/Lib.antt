@@ -6,3 +6,4 @@ mod Announcing
 mod Opening
 mod Filling
 mod Concluding
+mod Rightly

@@ -3,12 +3,10 @@ ghost use mathlib.Core.Path.{_≡_};
 ghost use mathlib.Core.List.{[]};
 ghost use Prim.Native.Nat.{ℕ, _+_, _≤_};
 ghost use lib.ListN.{length, take, drop};
-ghost use Rattle.std.specs.declared.result.Result.the-variants as results;
 ghost use Rattle.text.specs.Lines.{lines-left, lines-of};
-ghost use Rattle.text.specs.Text.{text-verdict};
 ghost use Rattle.grammar.specs.Verdicts.{names-read, rest-read, onward, lines-read, verdict};
 ghost use Rattle.sheet.specs.Sections.{Lawful-contents, counts-in, announced-in};
-ghost use Rattle.sheet.specs.Reads.{answer, table-after};
+ghost use Rattle.sheet.specs.Reads.{answer, table-after, RightlyRead};
 use super::contents::Contents;
 use super::contents::read_contents;
 use super::sections::read_loads;
@@ -80,12 +78,22 @@ fn read_lines(text: &[u8]) -> Result<Table, SheetFault>
     read_bodies(text, contents, &mut reader)
 }
 
-// Reads a sheet into the table. A refused sheet leaves the table as it was.
-pub fn read(table: &mut Table, text: &[u8]) -> Result<(), SheetFault>
+// Reads a sheet into the table by the verdict on its text.
+fn read_into(table: &mut Table, text: &[u8]) -> Result<(), SheetFault>
     ensures answers { λ r. ⌜ r ≡ answer (verdict (now (text .entry))) ⌝ }
     ensures holds { λ _. ⌜ now (table .exit) ≡ table-after (now (table .entry)) (verdict (now (text .entry))) ⌝ }
 {
     check_text(text)?;
     *table = read_lines(text)?;
     Ok(())
+}
+
+// Reads a sheet into the table: accepted exactly where the text writes a lawful sheet, and refused with what is wrong
+// first. A refused sheet leaves the table as it was.
+pub fn read(table: &mut Table, text: &[u8]) -> Result<(), SheetFault>
+    ensures answers { λ r. ⌜ r ≡ answer (verdict (now (text .entry))) ⌝ }
+    ensures holds { λ _. ⌜ now (table .exit) ≡ table-after (now (table .entry)) (verdict (now (text .entry))) ⌝ }
+    ensures rightly { λ r. ⌜ RightlyRead (now (text .entry)) (now (table .exit)) r ⌝ }
+{
+    read_into(table, text)
 }

@@ -4,3 +4,4 @@ pub mod Finds
 pub mod Laws
 pub mod Scan
 pub mod Spelling
+pub mod Kept

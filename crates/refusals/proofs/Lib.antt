@@ -1,0 +1,10 @@
+pub mod Telling
+pub mod Standing
+pub mod Stacking
+pub mod Heading
+pub mod Sheets
+pub mod Spotting
+pub mod Scanning
+pub mod Laws
+pub mod Texts
+pub mod Refusing
