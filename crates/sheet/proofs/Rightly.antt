@@ -12,6 +12,7 @@ use Rattle.refusals.specs.Refuses.{Faulty}
 use Rattle.refusals.proofs.Refusing.{refuses}
 use Rattle.written.specs.Accepts.{Writes}
 use Rattle.written.proofs.Accepts.{accepts}
+use Rattle.written.proofs.Alone.{one-sheet}
 use Rattle.sheet.specs.Reads.{answer, table-after, RightlyRead}
 
 module _ (text : List ℕ) (old : Table) where
@@ -19,14 +20,16 @@ module _ (text : List ℕ) (old : Table) where
   rightly-by (Ok t) e = record {
     accepted = λ _. accepts text t .0 (sym e);
     written = λ u w. (let q : Ok t ≡ Ok u = e ∙ accepts text u .1 w in let same : t ≡ u = cc in (refl, same));
+    alone = one-sheet text;
     refused = λ f r. (let z : _≡_ {A = ℕ} 0 1 = cc in absurd (omega arith));
-    faulty = λ f w. (let q : Ok t ≡ Err f = e ∙ refuses text f .1 w in let z : _≡_ {A = ℕ} 0 1 = cc in absurd (omega arith))
+    faulty = λ f w. (let q : Ok t ≡ Err f = e ∙ refuses text f .1 w in let z : _≡_ {A = ℕ} 0 1 = cc in absurd (omega arith));
   }
   rightly-by (Err g) e = record {
     accepted = λ r. (let z : _≡_ {A = ℕ} 0 1 = cc in absurd (omega arith));
     written = λ u w. (let q : Err g ≡ Ok u = e ∙ accepts text u .1 w in let z : _≡_ {A = ℕ} 0 1 = cc in absurd (omega arith));
+    alone = one-sheet text;
     refused = λ f r. (let same : g ≡ f = cc in refuses text f .0 (sym e ∙ ap Err same));
-    faulty = λ f w. (let q : Err g ≡ Err f = e ∙ refuses text f .1 w in let same : g ≡ f = cc in ap Err same)
+    faulty = λ f w. (let q : Err g ≡ Err f = e ∙ refuses text f .1 w in let same : g ≡ f = cc in ap Err same);
   }
 
   pub rightly : (after : Table) (r : Result (Unit {0}) SheetFault) → after ≡ table-after old (verdict text) → r ≡ answer (verdict text) → RightlyRead text after r

@@ -23,10 +23,11 @@ abbrev pub table-after : Table → Result Table SheetFault → Table
 table-after old (Ok table) = table
 table-after old (Err fault) = old
 
--- A sheet is read rightly: yes exactly where the text writes a lawful sheet, whose table it then is; a fault exactly where that is what is wrong first.
+-- A sheet is read rightly: yes exactly where the text writes a lawful sheet, whose table it then is, and there is one such sheet; a fault exactly where that is what is wrong first.
 pub record RightlyRead (text : List ℕ) (after : Table) (r : Result (Unit {0}) SheetFault) : Type 0 where
   pub accepted : r ≡ Ok tt → Writes text after
   pub written : (table : Table) → Writes text table → (r ≡ Ok tt) × (after ≡ table)
+  pub alone : (t u : Table) (one : Writes text t) (other : Writes text u) → one .sheet ≡ other .sheet
   pub refused : (fault : SheetFault) → r ≡ Err fault → Faulty text fault
   pub faulty : (fault : SheetFault) → Faulty text fault → r ≡ Err fault
 
