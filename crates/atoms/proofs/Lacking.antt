@@ -1,16 +1,12 @@
 -- The atoms of one set that another lacks, as `a & !b` has them, and sets that have no atom in common.
 use mathlib.Core.Path.{_≡_, refl, sym, ap, _∙_, subst}
-use mathlib.Core.Bool.{Bool, true, false, not, _&&_}
 use mathlib.Core.Logic.{_⊎_, inl, inr}
 use Prim.Native.Nat.{ℕ, _-_, _<_, _≤_, _^_}
 use native.Mathlib.Omega.{arith}
 use lib.Bits.{bitAnd}
-use Rattle.std.proofs.shelf.Tests.{cases-lt, and-parts, and-from, eqb-true, eq-eqb, ne-eqb, not-true, eqb-false}
-use Rattle.atoms.specs.Sets.{digit, Has, has, Within, Apart, lacking, collected}
-use Rattle.atoms.specs.Bounded.{is-open}
-use Rattle.atoms.specs.declared.bounds.Bounds.{Bounds}
+use Rattle.std.proofs.shelf.Tests.{cases-lt}
+use Rattle.atoms.specs.Sets.{digit, Has, Within, Apart, lacking}
 use Rattle.atoms.proofs.Digits.{digit-of-zero, empty-zero, has-or-lacks, lacks-not, lacks-from, has-and, has-and-l, has-and-r, low-digit, not-has, not-lacks}
-use Rattle.atoms.proofs.Collecting.{collected-is}
 
 pub below-wide : (w s i : ℕ) → s < 2 ^ w → Has s i → i < w
 below-wide w s i h p = elim (cases-lt i w) [ inl k ↦ k | inr k ↦ absurd (lacks-not s i (low-digit s i w h k) p) ]
@@ -32,17 +28,6 @@ module _ (a b : ℕ) (ha : a < 2 ^ 64) (hb : b < 2 ^ 64) where
       | inr n ↦ absurd (lacks-not (lacking a b) i (ap (λ (x : ℕ). digit x i) e ∙ digit-of-zero i) (lacking-in i p n))
     ];
   }
-
--- the open atoms
-pub open-collected : (b : Bounds) → b .lower < 2 ^ 64 → b .upper < 2 ^ 64 → lacking (b .upper) (b .lower) ≡ collected (is-open b) 64
-open-collected b hl hu = collected-is (is-open b) 64 (lacking (b .upper) (b .lower))
-    (λ i h.
-    let p = lacking-has (b .upper) (b .lower) hu hl i h in
-    let e = lacking-lacks (b .upper) (b .lower) hu hl i h in
-    (below-wide 64 (b .upper) i hu p, and-from (has (b .upper) i) (not (has (b .lower) i)) (eq-eqb (digit (b .upper) i) 1 p) (ap not (ne-eqb (digit (b .lower) i) 1 (λ q. lacks-not (b .lower) i e q)))))
-    (λ i k t.
-    let q = and-parts (has (b .upper) i) (not (has (b .lower) i)) t in
-    lacking-in (b .upper) (b .lower) hu hl i (eqb-true (digit (b .upper) i) 1 (q .0)) (lacks-from (b .lower) i (λ h. eqb-false (digit (b .lower) i) 1 (not-true (has (b .lower) i) (q .1)) h)))
 
 -- ---- no atom in common
 pub apart-from : (a b : ℕ) → bitAnd a b ≡ 0 → Apart a b
