@@ -1,5 +1,5 @@
 -- Within is an order; unions are the least above, intersections the greatest below.
-use mathlib.Core.Path.{_≡_, refl, sym, ap, _∙_}
+use mathlib.Core.Path.{_≡_, refl, sym, ap, _∙_, subst}
 use mathlib.Core.Logic.{_⊎_, inl, inr}
 use Prim.Native.Nat.{ℕ, suc, _-_, _/_, _%_, _<_, _≤_, _^_}
 use native.Mathlib.Nat.{mod-eq-of-lt, mod-lt}
@@ -8,7 +8,7 @@ use lib.Bits.{bitAnd, bitOr, and-le-r, and-mask}
 use lib.Pow.{pow-pos}
 use Rattle.std.proofs.shelf.Tests.{cases-lt}
 use Rattle.atoms.specs.Sets.{digit, Has, Within}
-use Rattle.atoms.proofs.Digits.{ext, same-digit, lacks-not, digit-of-zero, digit-zero, digit-suc, has-or-lacks, has-and, has-and-l, has-and-r, has-or-l, has-or-r, has-or-cases, mod-digit, low-digit}
+use Rattle.atoms.proofs.Digits.{ext, same-digit, lacks-not, digit-of-zero, digit-zero, digit-suc, has-or-lacks, has-and, has-and-l, has-and-r, has-or-l, has-or-r, has-or-cases, mod-digit, low-digit, pow-only}
 
 -- ---- Within is an order
 pub within-refl : (a : ℕ) → Within a a
@@ -61,6 +61,10 @@ within-le {a} {b} p = omega (arith, test-within p, and-le-r a b)
 -- a step of a chain that rises and moves makes the number larger
 pub within-lt : {a b : ℕ} → Within a b → (a ≡ b → ⊥) → a < b
 within-lt p f = omega (arith, within-le p)
+
+-- an atom that a set has, alone
+pub atom-within : {s : ℕ} (i : ℕ) → Has s i → Within (2 ^ i) s
+atom-within {s} i h = record { at = λ j q. subst (Has s) (pow-only i j q) h }
 
 -- every atom below w
 pub below-within : {s : ℕ} (w : ℕ) → s < 2 ^ w → Within s (2 ^ w - 1)

@@ -6,7 +6,7 @@ use native.Mathlib.Omega.{arith}
 use lib.Bits.{bitAnd}
 use Rattle.std.proofs.shelf.Tests.{cases-lt}
 use Rattle.atoms.specs.Sets.{digit, Has, Within, Apart, lacking}
-use Rattle.atoms.proofs.Digits.{digit-of-zero, empty-zero, has-or-lacks, lacks-not, lacks-from, has-and, has-and-l, has-and-r, low-digit, not-has, not-lacks}
+use Rattle.atoms.proofs.Digits.{digit-of-zero, empty-zero, has-or-lacks, lacks-not, lacks-from, has-and, has-and-l, has-and-r, low-digit, not-has, not-lacks, pow-only}
 
 pub below-wide : (w s i : ℕ) → s < 2 ^ w → Has s i → i < w
 below-wide w s i h p = elim (cases-lt i w) [ inl k ↦ k | inr k ↦ absurd (lacks-not s i (low-digit s i w h k) p) ]
@@ -32,6 +32,13 @@ module _ (a b : ℕ) (ha : a < 2 ^ 64) (hb : b < 2 ^ 64) where
 -- ---- no atom in common
 pub apart-from : (a b : ℕ) → bitAnd a b ≡ 0 → Apart a b
 apart-from a b e i p q = lacks-not (bitAnd a b) i (ap (λ (x : ℕ). digit x i) e ∙ digit-of-zero i) (has-and a b i p q)
+
+pub zero-apart : (a : ℕ) → Apart 0 a
+zero-apart a i p q = lacks-not 0 i (digit-of-zero i) p
+
+-- an atom that a set lacks, alone
+pub atom-apart : (i a : ℕ) → digit a i ≡ 0 → Apart (2 ^ i) a
+atom-apart i a e j p q = lacks-not a i e (subst (Has a) (sym (pow-only i j p)) q)
 
 pub apart-none : (a b : ℕ) → Apart a b → bitAnd a b ≡ 0
 apart-none a b f = empty-zero (bitAnd a b) (λ i. lacks-from (bitAnd a b) i (λ h. f i (has-and-l a b i h) (has-and-r a b i h)))

@@ -1,0 +1,7 @@
+mod Narrowing
+pub mod Pegging
+mod Parting
+mod Forking
+mod Seeking
+pub mod Listed
+mod Tallying

@@ -1,0 +1,3 @@
+pub mod Lists
+pub mod Pegs
+pub mod Search

@@ -1,0 +1,37 @@
+-- A fork at bounds, as the search uses it: what the narrowed bounds leave is what the bounds leave.
+use mathlib.Core.Logic.{_⊎_, inl, inr}
+use Prim.Native.Nat.{ℕ, _<_}
+use native.Mathlib.Omega.{arith}
+use Rattle.atoms.specs.Bounded.{open-count}
+use Rattle.atoms.specs.declared.bounds.Bounds.{Bounds}
+use Rattle.atoms.proofs.Openness.{open-no-more}
+use Rattle.approx.specs.Meanings.{Meaning}
+use Rattle.approx.proofs.Laws.{Lawful}
+use Rattle.solver.specs.Search.{Inside, Only, Joins, Forks}
+use Rattle.solver.specs.declared.search.Fork.the-variants.{Nothing, Single, Two}
+use Rattle.solver.proofs.Narrowing.{narrow-rises, narrow-sinks, narrow-inside, narrow-keeps}
+
+module _ {m : Meaning} {b : Bounds} where
+  pub fork-none : Lawful m → Forks m b Nothing → (x : ℕ) → Inside m b x → ⊥
+  fork-none laws f x i = f .leaves x (narrow-keeps (f .narrows) laws i)
+
+  pub fork-only : {z : ℕ} → Lawful m → Forks m b (Single z) → Only (Inside m b) z
+  fork-only laws f = record { here = narrow-inside (f .narrows) (f .leaves .here); one = λ x i. f .leaves .one x (narrow-keeps (f .narrows) laws i) }
+
+  module _ {c d : Bounds} (f : Forks m b (Two c d)) where
+    pub fork-joins : Lawful m → Joins (Inside m b) (Inside m c) (Inside m d)
+    fork-joins laws = record {
+      first-in = λ x i. narrow-inside (f .narrows) (record { stable = i .stable; between = f .leaves .joins .first-in x (i .between) });
+      second-in = λ x i. narrow-inside (f .narrows) (record { stable = i .stable; between = f .leaves .joins .second-in x (i .between) });
+      either = λ x i. elim (f .leaves .joins .either x (narrow-keeps (f .narrows) laws i .between)) [
+        | inl p ↦ inl (record { stable = i .stable; between = p })
+        | inr q ↦ inr (record { stable = i .stable; between = q })
+      ];
+      ahead = λ x y p q. f .leaves .joins .ahead x y (p .between) (q .between);
+    }
+
+    pub fork-first-fewer : open-count c < open-count b
+    fork-first-fewer = omega (arith, f .leaves .first-fewer, open-no-more b (f .narrow) (narrow-rises (f .narrows)) (narrow-sinks (f .narrows)))
+
+    pub fork-second-fewer : open-count d < open-count b
+    fork-second-fewer = omega (arith, f .leaves .second-fewer, open-no-more b (f .narrow) (narrow-rises (f .narrows)) (narrow-sinks (f .narrows)))

@@ -1,0 +1,34 @@
+use borrow.Author.Needs.{needs}
+use Rattle.atoms.specs.Bounded.{open-count}
+use Rattle.approx.specs.Meanings.{meaning}
+use Rattle.approx.proofs.Laws.{Lawful, lawful}
+use Rattle.solver.proofs.Forking.{fork-none, fork-only, fork-joins, fork-first-fewer, fork-second-fewer}
+use Rattle.solver.proofs.Tallying.{tallied-none, tallied-one, tallied-both}
+use Rattle.solver.proofs.search.+add_up.Given as given
+use Rattle.solver.proofs.search.+add_up.Needs as need
+
+laws : (g : given.Over) (a : g .A .Denot) → Lawful (meaning (g .A·Approximator) a)
+laws g a = let met = g .A·Approximator·met in lawful (g .A·Approximator) (met .wide) (met .exact) (met .precise) (met .below) (met .ignores) a
+
+pub add-up-requires : need.add-up-requires
+add-up-requires g t c κs within =
+    let fewer = fork-first-fewer (c .in-Two-pile .ensures tt) in
+    let proper = c .in-Two-pile .ensures tt .leaves .first-proper in
+    search needs
+
+pub add-up-requires-in-Two-pile : need.add-up-requires-in-Two-pile
+add-up-requires-in-Two-pile g t c κs within =
+    let fewer = fork-second-fewer (c .in-Two-pile .ensures tt) in
+    let proper = c .in-Two-pile .ensures tt .leaves .second-proper in
+    search needs
+
+pub returns-in-Nothing-pile : need.returns-in-Nothing-pile
+returns-in-Nothing-pile g t c = tallied-none _ (fork-none (laws g (c .args .pile .now)) (c .in-Nothing-pile .ensures tt))
+
+pub returns-in-Single-pile : need.returns-in-Single-pile
+returns-in-Single-pile g t c = tallied-one (open-count (c .args .bounds)) (fork-only (laws g (c .args .pile .now)) (c .in-Single-pile .ensures tt))
+
+pub returns-in-Two-pile : need.returns-in-Two-pile
+returns-in-Two-pile g t c =
+    let f = c .in-Two-pile .ensures tt in
+    tallied-both (fork-joins f (laws g (c .args .pile .now))) (fork-first-fewer f) (fork-second-fewer f) (c .add-up .ensures) (c .add-up-in-Two-pile .ensures) (c .saturating-add .ensures)
