@@ -7,7 +7,7 @@ use native.Mathlib.Omega.{arith}
 use lib.Bits.{bitAnd, bitOr, and-le-r, and-mask}
 use lib.Pow.{pow-pos}
 use Rattle.std.proofs.shelf.Tests.{cases-lt}
-use Rattle.atoms.specs.Sets.{digit, Has, Within}
+use Rattle.atoms.specs.Sets.{digit, Has, Within, clipped}
 use Rattle.atoms.proofs.Digits.{ext, same-digit, lacks-not, digit-of-zero, digit-zero, digit-suc, has-or-lacks, has-and, has-and-l, has-and-r, has-or-l, has-or-r, has-or-cases, mod-digit, low-digit, pow-only}
 
 -- ---- Within is an order
@@ -89,5 +89,14 @@ within-mod {a} {b} w p = record {
   at = λ i h. elim (cases-lt i w) [
     | inl k ↦ mod-digit b w i k ∙ p .at i (sym (mod-digit a w i k) ∙ h)
     | inr k ↦ absurd (lacks-not (a % 2 ^ w) i (low-digit (a % 2 ^ w) i w (mod-lt a (pow-pos w)) k) h)
+  ];
+}
+
+-- the atoms of a set below a width are in the set
+pub clipped-within : (w s : ℕ) → Within (clipped w s) s
+clipped-within w s = record {
+  at = λ i h. elim (cases-lt i w) [
+    | inl k ↦ sym (mod-digit s w i k) ∙ h
+    | inr k ↦ absurd (lacks-not (clipped w s) i (low-digit (clipped w s) i w (mod-lt s (pow-pos w)) k) h)
   ];
 }

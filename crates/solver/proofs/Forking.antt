@@ -1,5 +1,4 @@
 -- A fork at bounds, as the search uses it: what the narrowed bounds leave is what the bounds leave.
-use mathlib.Core.Logic.{_⊎_, inl, inr}
 use Prim.Native.Nat.{ℕ, _<_}
 use native.Mathlib.Omega.{arith}
 use Rattle.atoms.specs.Bounded.{open-count}
@@ -10,6 +9,7 @@ use Rattle.approx.proofs.Laws.{Lawful}
 use Rattle.solver.specs.Search.{Inside, Only, Joins, Forks}
 use Rattle.solver.specs.declared.search.Fork.the-variants.{Nothing, Single, Two}
 use Rattle.solver.proofs.Narrowing.{narrow-rises, narrow-sinks, narrow-inside, narrow-keeps}
+use Rattle.solver.proofs.Parting.{parts-joins}
 
 module _ {m : Meaning} {b : Bounds} where
   pub fork-none : Lawful m → Forks m b Nothing → (x : ℕ) → Inside m b x → ⊥
@@ -20,15 +20,14 @@ module _ {m : Meaning} {b : Bounds} where
 
   module _ {c d : Bounds} (f : Forks m b (Two c d)) where
     pub fork-joins : Lawful m → Joins (Inside m b) (Inside m c) (Inside m d)
-    fork-joins laws = record {
-      first-in = λ x i. narrow-inside (f .narrows) (record { stable = i .stable; between = f .leaves .joins .first-in x (i .between) });
-      second-in = λ x i. narrow-inside (f .narrows) (record { stable = i .stable; between = f .leaves .joins .second-in x (i .between) });
-      either = λ x i. elim (f .leaves .joins .either x (narrow-keeps (f .narrows) laws i .between)) [
-        | inl p ↦ inl (record { stable = i .stable; between = p })
-        | inr q ↦ inr (record { stable = i .stable; between = q })
-      ];
-      ahead = λ x y p q. f .leaves .joins .ahead x y (p .between) (q .between);
-    }
+    fork-joins laws =
+        let j = parts-joins (f .leaves) in
+        record {
+          first-in = λ x i. narrow-inside (f .narrows) (j .first-in x i);
+          second-in = λ x i. narrow-inside (f .narrows) (j .second-in x i);
+          either = λ x i. j .either x (narrow-keeps (f .narrows) laws i);
+          ahead = j .ahead;
+        }
 
     pub fork-first-fewer : open-count c < open-count b
     fork-first-fewer = omega (arith, f .leaves .first-fewer, open-no-more b (f .narrow) (narrow-rises (f .narrows)) (narrow-sinks (f .narrows)))

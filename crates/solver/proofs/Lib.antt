@@ -1,7 +1,10 @@
 mod Narrowing
-pub mod Pegging
 mod Parting
 mod Forking
 mod Seeking
-pub mod Listed
 mod Tallying
+pub mod Alikeness
+pub mod Listed
+pub mod Pegging
+pub mod Handing
+pub mod Enlisting

@@ -33,7 +33,7 @@ ordered-append [] ys p q f = q
 ordered-append (x ∷ xs) ys p q f = (ahead-append x xs ys (p .0) (λ y i. f x y (inl refl) i), ordered-append xs ys (p .1) q (λ z y i j. f z y (inr i) j))
 
 -- ---- one list only
-ahead-in : (y : ℕ) (xs : List ℕ) → AheadOf y xs → (x : ℕ) → In x xs → Before y x
+pub ahead-in : (y : ℕ) (xs : List ℕ) → AheadOf y xs → (x : ℕ) → In x xs → Before y x
 ahead-in y [] a x i = absurd i
 ahead-in y (z ∷ xs) a x (inl e) = subst (Before y) (sym e) (a .0)
 ahead-in y (z ∷ xs) a x (inr i) = ahead-in y xs (a .1) x i

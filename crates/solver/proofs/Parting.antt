@@ -14,7 +14,7 @@ use Rattle.atoms.proofs.Openness.{open-then, closed-lower, none-open, open-fewe
 use Rattle.approx.specs.Meanings.{Meaning}
 use Rattle.approx.specs.Stability.{Stable}
 use Rattle.solver.specs.Pegs.{Pegs}
-use Rattle.solver.specs.Search.{Inside, Only, Parts}
+use Rattle.solver.specs.Search.{Inside, Only, Joins, Parts}
 
 -- ---- nothing, or one
 module _ {m : Meaning} {b : Bounds} where
@@ -61,7 +61,7 @@ module _ (b c d : Bounds) (i : ℕ) (hu : b .upper < 2 ^ 64) (proper : Proper b)
   same-below : (x y : ℕ) → Between b x → Between b y → (j : ℕ) → j < i → digit x j ≡ digit y j
   same-below x y p q j h = same-digit x y j (λ k. q .0 .at j (settled-below j h p k)) (λ k. p .0 .at j (settled-below j h q k))
 
-  parts-at : Parts b c d
+  pub parts-at : Parts b c d
   parts-at = record {
     first-proper = c-proper;
     second-proper = d-proper;
@@ -87,3 +87,15 @@ pub parts : (b c d : Bounds) {i s : ℕ} → b .upper < 2 ^ 64 → Proper b → 
 parts b c d {i} {s} hu proper k low e without having =
     let alone : s ≡ 2 ^ i = e ∙ pow-mod-same 64 i k in
     parts-at b c d i hu proper low (subst (λ (x : ℕ). Pegs b 0 x c) alone without) (subst (λ (x : ℕ). Pegs b x 0 d) alone having)
+
+-- what is stable between the bounds is stable between the parts
+pub parts-joins : {m : Meaning} {b c d : Bounds} → Parts b c d → Joins (Inside m b) (Inside m c) (Inside m d)
+parts-joins p = record {
+  first-in = λ x i. record { stable = i .stable; between = p .joins .first-in x (i .between) };
+  second-in = λ x i. record { stable = i .stable; between = p .joins .second-in x (i .between) };
+  either = λ x i. elim (p .joins .either x (i .between)) [
+    | inl q ↦ inl (record { stable = i .stable; between = q })
+    | inr q ↦ inr (record { stable = i .stable; between = q })
+  ];
+  ahead = λ x y i k. p .joins .ahead x y (i .between) (k .between);
+}

@@ -12,10 +12,10 @@ use Rattle.solver.specs.Search.{Only, Joins}
 use Rattle.solver.proofs.Listed.{in-append, in-left, in-right, ordered-append}
 
 -- ---- how many there are
-counted-none : {P : ℕ → Type 0} → ((x : ℕ) → P x → ⊥) → Counted P 0
+pub counted-none : {P : ℕ → Type 0} → ((x : ℕ) → P x → ⊥) → Counted P 0
 counted-none f = record { items = []; long = refl; held = record { ordered = tt; sound = λ x i. absurd i; whole = λ x p. absurd (f x p) } }
 
-counted-one : {P : ℕ → Type 0} {z : ℕ} → Only P z → Counted P 1
+pub counted-one : {P : ℕ → Type 0} {z : ℕ} → Only P z → Counted P 1
 counted-one {P} {z} o = record {
   items = z ∷ [];
   long = refl;
@@ -26,7 +26,7 @@ counted-one {P} {z} o = record {
   };
 }
 
-counted-both : {P Q R : ℕ → Type 0} {m n : ℕ} → Joins P Q R → Counted Q m → Counted R n → Counted P (m + n)
+pub counted-both : {P Q R : ℕ → Type 0} {m n : ℕ} → Joins P Q R → Counted Q m → Counted R n → Counted P (m + n)
 counted-both j p q = record {
   items = p .items ++ q .items;
   long = length-append (p .items) (q .items) ∙ ap₂ _+_ (p .long) (q .long);

@@ -1,3 +1,4 @@
 pub mod Lists
 pub mod Pegs
 pub mod Search
+pub mod Fronts

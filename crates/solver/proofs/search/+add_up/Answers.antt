@@ -30,5 +30,6 @@ returns-in-Single-pile g t c = tallied-one (open-count (c .args .bounds)) (fork-
 
 pub returns-in-Two-pile : need.returns-in-Two-pile
 returns-in-Two-pile g t c =
+    let m = meaning (g .A·Approximator) (c .args .pile .now) in
     let f = c .in-Two-pile .ensures tt in
-    tallied-both (fork-joins f (laws g (c .args .pile .now))) (fork-first-fewer f) (fork-second-fewer f) (c .add-up .ensures) (c .add-up-in-Two-pile .ensures) (c .saturating-add .ensures)
+    tallied-both (fork-joins {m = m} f (laws g (c .args .pile .now))) (fork-first-fewer {m = m} f) (fork-second-fewer {m = m} f) (c .add-up .ensures) (c .add-up-in-Two-pile .ensures) (c .saturating-add .ensures)

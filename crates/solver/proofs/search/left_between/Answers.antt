@@ -3,6 +3,7 @@ use Prim.Native.Nat.{ℕ, _<_, _^_}
 use native.Mathlib.Omega.{arith}
 use Rattle.std.proofs.shelf.Tests.{false≢true}
 use Rattle.atoms.specs.Sets.{Lowest}
+use Rattle.approx.specs.Meanings.{meaning}
 use Rattle.solver.proofs.Parting.{crossed-leaves, closed-one, closed-none, parts}
 use Rattle.solver.proofs.search.left_between.Needs as need
 
@@ -12,12 +13,12 @@ returns-then-not-is-proper g c = crossed-leaves (λ p. false≢true (c .if-not-i
 pub returns-then-is-stable : need.returns-then-is-stable
 returns-then-is-stable g c =
     let fits : c .args .bounds .upper < 2 ^ 64 = omega arith in
-    closed-one fits (sym (c .open-atoms .ensures) ∙ c .in-None .ensures tt) (c .if-not-is-proper .ensures tt .0 refl) (c .if-is-stable .ensures tt .0 refl)
+    closed-one {m = meaning (g .A·Approximator) (c .args .pile .now)} fits (sym (c .open-atoms .ensures) ∙ c .in-None .ensures tt) (c .if-not-is-proper .ensures tt .0 refl) (c .if-is-stable .ensures tt .0 refl)
 
 pub returns-else-is-stable : need.returns-else-is-stable
 returns-else-is-stable g c =
     let fits : c .args .bounds .upper < 2 ^ 64 = omega arith in
-    closed-none fits (sym (c .open-atoms .ensures) ∙ c .in-None .ensures tt) (λ s. false≢true (c .if-is-stable .ensures tt .1 s))
+    closed-none {m = meaning (g .A·Approximator) (c .args .pile .now)} fits (sym (c .open-atoms .ensures) ∙ c .in-None .ensures tt) (λ s. false≢true (c .if-is-stable .ensures tt .1 s))
 
 pub returns-in-Some : need.returns-in-Some
 returns-in-Some g c =
