@@ -69,8 +69,8 @@ fn left_between<A: Approximator>(pile: &A, bounds: Bounds) -> Fork
             }
         }
         Some(atom) => {
-            let parted = only(atom);
-            Fork::Two(pegged(bounds, 0, parted), pegged(bounds, parted, 0))
+            let chosen = only(atom);
+            Fork::Two(pegged(bounds, 0, chosen), pegged(bounds, chosen, 0))
         }
     }
 }

@@ -26,4 +26,4 @@ returns-in-Some g c =
     let fits : b .upper < 2 ^ 64 = omega arith in
     let found = c .in-Some .ensures tt in
     parts b (c .pegged .result) (c .pegged-in-Some .result) fits (c .if-not-is-proper .ensures tt .0 refl) (found .0)
-    (subst (λ (s : ℕ). Lowest s (c .in-Some .atom)) (c .open-atoms .ensures) (found .1)) (c .only-parted .ensures) (c .pegged .ensures .holds) (c .pegged-in-Some .ensures .holds)
+    (subst (λ (s : ℕ). Lowest s (c .in-Some .atom)) (c .open-atoms .ensures) (found .1)) (c .only-chosen .ensures) (c .pegged .ensures .holds) (c .pegged-in-Some .ensures .holds)
