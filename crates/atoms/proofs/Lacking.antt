@@ -1,12 +1,11 @@
 -- The atoms of one set that another lacks, as `a & !b` has them, and sets that have no atom in common.
-use mathlib.Core.Path.{_≡_, refl, sym, ap, _∙_, subst}
-use mathlib.Core.Logic.{_⊎_, inl, inr}
-use Prim.Native.Nat.{ℕ, _-_, _<_, _≤_, _^_}
-use native.Mathlib.Omega.{arith}
+use mathlib.Core.Path.{_≡_, sym, ap, _∙_, subst}
+use mathlib.Core.Logic.{inl, inr}
+use Prim.Native.Nat.{ℕ, _-_, _<_, _^_}
 use lib.Bits.{bitAnd}
 use Rattle.std.proofs.shelf.Tests.{cases-lt}
-use Rattle.atoms.specs.Sets.{digit, Has, Within, Apart, lacking}
-use Rattle.atoms.proofs.Digits.{digit-of-zero, empty-zero, has-or-lacks, lacks-not, lacks-from, has-and, has-and-l, has-and-r, low-digit, not-has, not-lacks, pow-only}
+use Rattle.atoms.specs.Sets.{digit, Has, Apart, lacking}
+use Rattle.atoms.proofs.Digits.{digit-of-zero, empty-zero, lacks-not, lacks-from, has-and, has-and-l, has-and-r, low-digit, not-has, not-lacks, pow-only}
 
 pub below-wide : (w s i : ℕ) → s < 2 ^ w → Has s i → i < w
 below-wide w s i h p = elim (cases-lt i w) [ inl k ↦ k | inr k ↦ absurd (lacks-not s i (low-digit s i w h k) p) ]
@@ -20,14 +19,6 @@ module _ (a b : ℕ) (ha : a < 2 ^ 64) (hb : b < 2 ^ 64) where
 
   pub lacking-in : (i : ℕ) → Has a i → digit b i ≡ 0 → Has (lacking a b) i
   lacking-in i p e = has-and a (2 ^ 64 - 1 - b) i p (not-has 64 b i hb (below-wide 64 a i ha p) e)
-
-  pub lacking-none : lacking a b ≡ 0 → Within a b
-  lacking-none e = record {
-    at = λ i p. elim (has-or-lacks b i) [
-      | inl q ↦ q
-      | inr n ↦ absurd (lacks-not (lacking a b) i (ap (λ (x : ℕ). digit x i) e ∙ digit-of-zero i) (lacking-in i p n))
-    ];
-  }
 
 -- ---- no atom in common
 pub apart-from : (a b : ℕ) → bitAnd a b ≡ 0 → Apart a b

@@ -1,7 +1,7 @@
 -- The open atoms of bounds: which they are, and that closer bounds have fewer.
 use mathlib.Core.Path.{_≡_, ap, _∙_}
-use mathlib.Core.Bool.{Bool, true, false, not, _&&_}
-use mathlib.Core.Logic.{_⊎_, inl, inr}
+use mathlib.Core.Bool.{true, not}
+use mathlib.Core.Logic.{inl, inr}
 use Prim.Native.Nat.{ℕ, _<_, _≤_, _^_}
 use Rattle.std.proofs.shelf.Tests.{cases-bool, and-parts, and-from, eqb-true, eq-eqb, ne-eqb, not-true, eqb-false}
 use Rattle.atoms.specs.Sets.{digit, Has, has, Within, lacking, collected}

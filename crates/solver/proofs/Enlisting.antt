@@ -1,15 +1,15 @@
 -- There is a list of all that are stable between bounds, and one of all that are wanted.
-use mathlib.Core.Path.{_≡_, sym, _∙_}
-use mathlib.Core.Logic.{_⊎_, inl, inr}
+use mathlib.Core.Path.{_∙_}
+use mathlib.Core.Logic.{inl, inr}
 use mathlib.Core.List.{List}
-use Prim.Native.Nat.{ℕ, zero, suc, _+_, _-_, _<_, _≤_, _^_}
+use Prim.Native.Nat.{ℕ, zero, suc, _+_, _-_, _<_, _^_}
 use native.Mathlib.Nat.{mod-lt}
 use native.Mathlib.Omega.{arith}
 use lib.Bits.{bitAnd, and-le-l}
 use lib.Count.{trailingZeros}
 use lib.Pow.{pow-pos, pow-lt, pow-mono}
 use Rattle.std.proofs.shelf.Tests.{cases-eq}
-use Rattle.atoms.specs.Sets.{Within, Apart, Lowest, all-below, clipped, lacking, collected}
+use Rattle.atoms.specs.Sets.{Lowest, all-below, clipped, lacking, collected}
 use Rattle.atoms.specs.Bounded.{Proper, is-open, open-count}
 use Rattle.atoms.specs.declared.bounds.Bounds.{Bounds}
 use Rattle.atoms.proofs.Collecting.{collected-below}
@@ -18,7 +18,6 @@ use Rattle.atoms.proofs.Inclusion.{within-test, test-within, clipped-within}
 use Rattle.atoms.proofs.Lacking.{below-wide}
 use Rattle.atoms.proofs.Ordering.{lowest-at}
 use Rattle.approx.specs.Meanings.{Meaning}
-use Rattle.approx.specs.Stability.{Stable}
 use Rattle.approx.specs.Settling.{first-bounds, begins}
 use Rattle.approx.proofs.Laws.{Lawful}
 use Rattle.approx.proofs.Deciding.{stable-or-not}

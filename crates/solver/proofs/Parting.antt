@@ -1,9 +1,9 @@
 -- What bounds leave: nothing stable where they are crossed, one candidate where no atom is open, and else two parts.
-use mathlib.Core.Path.{_≡_, sym, _∙_, subst}
+use mathlib.Core.Path.{_≡_, _∙_, subst}
 use mathlib.Core.Bool.{true}
 use mathlib.Core.Logic.{_⊎_, inl, inr}
 use Prim.Native.Nat.{ℕ, _<_, _^_}
-use Rattle.atoms.specs.Sets.{digit, Has, Within, Lowest, clipped, collected}
+use Rattle.atoms.specs.Sets.{digit, Has, Lowest, clipped, collected}
 use Rattle.atoms.specs.Bounded.{Proper, Between, is-open}
 use Rattle.atoms.specs.declared.bounds.Bounds.{Bounds}
 use Rattle.atoms.proofs.Collecting.{collected-from}

@@ -1,13 +1,13 @@
 -- Counts: of none, of one only, and of two parts.
 use mathlib.Core.Path.{_≡_, refl, sym, ap₂, _∙_, subst}
-use mathlib.Core.Logic.{_⊎_, inl, inr}
-use mathlib.Core.List.{List, [], _∷_, _++_}
+use mathlib.Core.Logic.{inl, inr}
+use mathlib.Core.List.{[], _∷_, _++_}
 use Prim.Native.Nat.{ℕ, suc, min, _+_, _-_, _*_, _<_, _≤_, _^_}
 use native.Mathlib.Nat.{pow-suc}
 use native.Mathlib.Omega.{arith}
-use lib.ListN.{length, length-append}
+use lib.ListN.{length-append}
 use lib.Pow.{pow-pos, pow-mono}
-use Rattle.solver.specs.Lists.{Lists, Counted, Tallied}
+use Rattle.solver.specs.Lists.{Counted, Tallied}
 use Rattle.solver.specs.Search.{Only, Joins}
 use Rattle.solver.proofs.Listed.{in-append, in-left, in-right, ordered-append}
 

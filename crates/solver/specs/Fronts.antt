@@ -7,7 +7,8 @@ use Rattle.atoms.specs.Order.{Before}
 use Rattle.solver.specs.Lists.{In, Ordered}
 use Rattle.solver.specs.Search.{After}
 
--- these were handed out, and the last of them, if any, is given: they are wanted, in listing order, before all that is left, and what is wanted is among them or is left
+-- these were handed out so far, the last of them given if there is one: they are wanted, in listing order and before all
+-- that comes after the last, and what is wanted is one of them or comes after the last
 pub record Front (W : ℕ → Type 0) (last : Option ℕ) (handed : List ℕ) : Type 0 where
   pub ordered : Ordered handed
   pub sound : (x : ℕ) → In x handed → W x

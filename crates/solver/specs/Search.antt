@@ -20,11 +20,11 @@ pub record Inside (m : Meaning) (b : Bounds) (x : ℕ) : Type 0 where
   pub between : Between b x
 
 -- ---- narrower bounds
--- the lower, with the atoms of the upper that may be on over it where no more than c is
+-- one step of the climb from the lower: the lower, and the atoms of the upper that may be on between the lower and c
 abbrev pub grounded : Meaning → Bounds → ℕ → ℕ
 grounded m b c = bitOr (b .lower) (bitAnd (b .upper) (m .may (b .lower) c))
 
--- v is what can be founded between the bounds: the atoms of the upper that may be on, up to the end of the climb from the lower
+-- v is what can be founded between the bounds: the atoms of the upper that may be on between the lower and the end of that climb
 pub record Founded (m : Meaning) (b : Bounds) (v : ℕ) : Type 0 where
   pub end : ℕ
   pub climbs : Climbs (grounded m b) (b .lower) end
@@ -41,14 +41,14 @@ pub record Only (P : ℕ → Type 0) (z : ℕ) : Type 0 where
   pub here : P z
   pub one : (x : ℕ) → P x → x ≡ z
 
--- P holds of what Q or R holds of, and all that Q holds of come before all that R holds of
+-- P holds of just what Q or R holds of, and all that Q holds of come before all that R holds of
 pub record Joins (P Q R : ℕ → Type 0) : Type 0 where
   pub first-in : (x : ℕ) → Q x → P x
   pub second-in : (x : ℕ) → R x → P x
   pub either : (x : ℕ) → P x → (Q x) ⊎ (R x)
   pub ahead : (x y : ℕ) → Q x → R y → Before x y
 
--- the bounds b part into c and after them d, which both have fewer open atoms
+-- what lies between b lies between c or, after all of those, between d; neither is crossed, and both have fewer open atoms
 pub record Parts (b c d : Bounds) : Type 0 where
   pub first-proper : Proper c
   pub second-proper : Proper d

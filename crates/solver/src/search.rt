@@ -1,5 +1,5 @@
 // The search for stable interpretations between bounds: the bounds are narrowed, and then parted at the lowest open atom.
-ghost use Prim.Native.Nat.{ℕ, _≤_, _^_};
+ghost use Prim.Native.Nat.{_≤_, _^_};
 ghost use Rattle.std.specs.Orderings.{Decides};
 ghost use Rattle.atoms.specs.Bounded.{Proper, open-count};
 ghost use Rattle.approx.specs.Meanings.{meaning};
