@@ -29,8 +29,7 @@ module _ {m : Meaning} {b : Bounds} where
           ahead = j .ahead;
         }
 
-    pub fork-first-fewer : open-count c < open-count b
-    fork-first-fewer = omega (arith, f .leaves .first-fewer, open-no-more b (f .narrow) (narrow-rises (f .narrows)) (narrow-sinks (f .narrows)))
-
-    pub fork-second-fewer : open-count d < open-count b
-    fork-second-fewer = omega (arith, f .leaves .second-fewer, open-no-more b (f .narrow) (narrow-rises (f .narrows)) (narrow-sinks (f .narrows)))
+    pub fork-fewer : (open-count c < open-count b) × (open-count d < open-count b)
+    fork-fewer =
+        let less = open-no-more b (f .narrow) (narrow-rises (f .narrows)) (narrow-sinks (f .narrows)) in
+        (omega (arith, f .leaves .first-fewer), omega (arith, f .leaves .second-fewer))

@@ -2,7 +2,7 @@ use borrow.Author.Needs.{needs}
 use Rattle.atoms.specs.Bounded.{open-count}
 use Rattle.approx.specs.Meanings.{meaning}
 use Rattle.approx.proofs.Laws.{Lawful, lawful}
-use Rattle.solver.proofs.Forking.{fork-none, fork-only, fork-joins, fork-first-fewer, fork-second-fewer}
+use Rattle.solver.proofs.Forking.{fork-none, fork-only, fork-joins, fork-fewer}
 use Rattle.solver.proofs.Tallying.{tallied-none, tallied-one, tallied-both}
 use Rattle.solver.proofs.search.+add_up.Given as given
 use Rattle.solver.proofs.search.+add_up.Needs as need
@@ -12,14 +12,14 @@ laws g a = let met = g .A·Approximator·met in lawful (g .A·Approximator) (met
 
 pub add-up-requires : need.add-up-requires
 add-up-requires g t c κs within =
-    let fewer = fork-first-fewer (c .in-Two-pile .ensures tt) in
-    let proper = c .in-Two-pile .ensures tt .leaves .first-proper in
+    let parts = c .in-Two-pile .ensures tt .leaves in
+    let fewer = fork-fewer {m = meaning (g .A·Approximator) (c .args .pile .now)} (c .in-Two-pile .ensures tt) in
     search needs
 
 pub add-up-requires-in-Two-pile : need.add-up-requires-in-Two-pile
 add-up-requires-in-Two-pile g t c κs within =
-    let fewer = fork-second-fewer (c .in-Two-pile .ensures tt) in
-    let proper = c .in-Two-pile .ensures tt .leaves .second-proper in
+    let parts = c .in-Two-pile .ensures tt .leaves in
+    let fewer = fork-fewer {m = meaning (g .A·Approximator) (c .args .pile .now)} (c .in-Two-pile .ensures tt) in
     search needs
 
 pub returns-in-Nothing-pile : need.returns-in-Nothing-pile
@@ -32,4 +32,5 @@ pub returns-in-Two-pile : need.returns-in-Two-pile
 returns-in-Two-pile g t c =
     let m = meaning (g .A·Approximator) (c .args .pile .now) in
     let f = c .in-Two-pile .ensures tt in
-    tallied-both (fork-joins {m = m} f (laws g (c .args .pile .now))) (fork-first-fewer {m = m} f) (fork-second-fewer {m = m} f) (c .add-up .ensures) (c .add-up-in-Two-pile .ensures) (c .saturating-add .ensures)
+    let fewer = fork-fewer {m = m} f in
+    tallied-both (fork-joins {m = m} f (laws g (c .args .pile .now))) (fewer .0) (fewer .1) (c .add-up .ensures) (c .add-up-in-Two-pile .ensures) (c .saturating-add .ensures)

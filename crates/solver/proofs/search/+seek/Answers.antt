@@ -3,7 +3,7 @@ use borrow.Author.Needs.{needs}
 use Rattle.std.proofs.shelf.Tests.{false≢true}
 use Rattle.approx.specs.Meanings.{meaning}
 use Rattle.approx.proofs.Laws.{Lawful, lawful}
-use Rattle.solver.proofs.Forking.{fork-none, fork-only, fork-joins, fork-first-fewer, fork-second-fewer}
+use Rattle.solver.proofs.Forking.{fork-none, fork-only, fork-joins, fork-fewer}
 use Rattle.solver.proofs.Seeking.{last-none, only-first, only-none, first-answer, second-answer}
 use Rattle.solver.proofs.search.+seek.Given as given
 use Rattle.solver.proofs.search.+seek.Needs as need
@@ -16,14 +16,14 @@ returns-then-not-comes-after g t c = last-none (c .args .after) (λ p. false≢t
 
 pub seek-requires : need.seek-requires
 seek-requires g t c κs within =
-    let fewer = fork-first-fewer (c .in-Two-pile .ensures tt) in
-    let proper = c .in-Two-pile .ensures tt .leaves .first-proper in
+    let parts = c .in-Two-pile .ensures tt .leaves in
+    let fewer = fork-fewer {m = meaning (g .A·Approximator) (c .args .pile .now)} {b = c .args .bounds} (c .in-Two-pile .ensures tt) in
     search needs
 
 pub seek-requires-in-None : need.seek-requires-in-None
 seek-requires-in-None g t c κs within =
-    let fewer = fork-second-fewer (c .in-Two-pile .ensures tt) in
-    let proper = c .in-Two-pile .ensures tt .leaves .second-proper in
+    let parts = c .in-Two-pile .ensures tt .leaves in
+    let fewer = fork-fewer {m = meaning (g .A·Approximator) (c .args .pile .now)} {b = c .args .bounds} (c .in-Two-pile .ensures tt) in
     search needs
 
 pub returns-in-Nothing-pile : need.returns-in-Nothing-pile
