@@ -2,3 +2,4 @@ pub mod Laws
 pub mod Climbing
 pub mod Rounding
 pub mod Steadiness
+pub mod Deciding

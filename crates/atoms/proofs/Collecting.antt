@@ -10,7 +10,7 @@ use lib.Bits.{bitOr, or-lt}
 use lib.Count.{ones, ones-step}
 use lib.Dec.{eqb}
 use lib.Pow.{pow-pos}
-use Rattle.std.proofs.shelf.Tests.{cases-eq, cases-lt, cases-bool, both-ways, eq-eqb, ne-eqb}
+use Rattle.std.proofs.shelf.Tests.{cases-eq, cases-lt, cases-bool, both-ways, false≢true, eq-eqb, ne-eqb, cond-true, cond-false}
 use Rattle.atoms.specs.Sets.{digit, Has, has, collected, how-many}
 use Rattle.atoms.proofs.Digits.{ext, digit-of-zero, digit-zero, digit-suc, has-or-lacks, has-or-l, has-or-r, has-or-cases, lacks-not, lacks-from, low-digit, pow-has, pow-only, same-digit}
 use Rattle.atoms.proofs.Counting.{ones-zero}
@@ -67,6 +67,28 @@ pub how-many-same : (p q : ℕ → Bool) (n : ℕ) → ((i : ℕ) → i < n → 
 unfolding how-many
 how-many-same p q zero f = refl
 how-many-same p q (suc n) f = ap₂ _+_ (how-many-same p q n (λ i h. f i (omega arith))) (ap (λ (b : Bool). cond b 1 0) (f n (omega arith)))
+
+passing-le : (a b : Bool) → (a ≡ true → b ≡ true) → cond a 1 0 ≤ cond b 1 0
+passing-le true true f = omega arith
+passing-le true false f = absurd (false≢true (f refl))
+passing-le false true f = omega arith
+passing-le false false f = omega arith
+
+-- where all that pass one test pass another, no more pass the one
+pub how-many-le : (p q : ℕ → Bool) (n : ℕ) → ((i : ℕ) → p i ≡ true → q i ≡ true) → how-many p n ≤ how-many q n
+unfolding how-many
+how-many-le p q zero f = omega arith
+how-many-le p q (suc n) f = omega (arith, how-many-le p q n f, passing-le (p n) (q n) (f n))
+
+-- and fewer do, where an atom passes the other alone
+pub how-many-less : (p q : ℕ → Bool) (n k : ℕ) → ((i : ℕ) → p i ≡ true → q i ≡ true) → k < n → p k ≡ false → q k ≡ true → how-many p n < how-many q n
+unfolding how-many
+how-many-less p q zero k f h fails passes = absurd (omega arith)
+how-many-less p q (suc n) k f h fails passes = elim (cases-eq k n) [
+  | inl e ↦
+      omega (arith, how-many-le p q n f, cond-false {A = ℕ} (p n) 1 0 (subst (λ (x : ℕ). p x ≡ false) e fails), cond-true {A = ℕ} (q n) 1 0 (subst (λ (x : ℕ). q x ≡ true) e passes))
+  | inr d ↦ omega (arith, how-many-less p q n k f (omega arith) fails passes, passing-le (p n) (q n) (f n))
+]
 
 -- counted from the lowest atom on
 how-many-up : (p : ℕ → Bool) (n : ℕ) → how-many p (suc n) ≡ cond (p 0) 1 0 + how-many (λ i. p (suc i)) n

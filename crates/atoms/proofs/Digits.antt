@@ -3,12 +3,12 @@ use mathlib.Core.Path.{_≡_, refl, sym, ap, ap₂, _∙_}
 use mathlib.Core.Bool.{Bool, true, false, cond}
 use mathlib.Core.Logic.{_⊎_, inl, inr}
 use Prim.Native.Nat.{ℕ, suc, zero, _+_, _-_, _/_, _%_, _<_, _≤_, _^_}
-use native.Mathlib.Nat.{mod-lt, mul-mod-right, pow-suc, zero-lt-suc, div-eq-of-lt, lt-of-lt-of-le}
+use native.Mathlib.Nat.{mod-lt, mod-eq-of-lt, mul-mod-right, pow-suc, zero-lt-suc, div-eq-of-lt, lt-of-lt-of-le}
 use native.Mathlib.Numerals.{one-add}
 use native.Mathlib.Omega.{arith}
 use lib.Arith.{bin-ind}
 use lib.Bits.{bitAnd, bitOr, bitXor, and-shr, or-shr, xor-shr, and-mod, or-mod, xor-mod}
-use lib.Pow.{pow-pos, pow-mono, pow-add, shr-shr, mod-mod-pow, field}
+use lib.Pow.{pow-pos, pow-mono, pow-lt, pow-add, shr-shr, mod-mod-pow, field}
 use Rattle.std.proofs.shelf.Tests.{cases-eq, cases-lt}
 use Rattle.atoms.specs.Sets.{digit, Has}
 
@@ -171,7 +171,10 @@ pow-other (suc i) (suc j) f = digit-suc (2 ^ suc i) j ∙ ap (λ (x : ℕ). digi
 pub pow-only : (i j : ℕ) → Has (2 ^ i) j → i ≡ j
 pow-only i j h = elim (cases-eq i j) [ inl e ↦ e | inr n ↦ absurd (lacks-not (2 ^ i) j (pow-other i j n) h) ]
 
--- an atom at or above the width is not below it
+-- an atom below the width stays, and one at or above it does not
+pub pow-mod-same : (w i : ℕ) → i < w → 2 ^ i % 2 ^ w ≡ 2 ^ i
+pow-mod-same w i h = mod-eq-of-lt (pow-lt h)
+
 pub pow-mod-zero : (w i : ℕ) → w ≤ i → 2 ^ i % 2 ^ w ≡ 0
 pow-mod-zero w i h =
     let e : i ≡ w + (i - w) = omega arith in

@@ -1,5 +1,5 @@
 -- Within is an order; unions are the least above, intersections the greatest below.
-use mathlib.Core.Path.{_≡_, refl, sym, ap, _∙_}
+use mathlib.Core.Path.{_≡_, refl, sym, ap, _∙_, subst}
 use mathlib.Core.Logic.{_⊎_, inl, inr}
 use Prim.Native.Nat.{ℕ, suc, _-_, _/_, _%_, _<_, _≤_, _^_}
 use native.Mathlib.Nat.{mod-eq-of-lt, mod-lt}
@@ -7,8 +7,8 @@ use native.Mathlib.Omega.{arith}
 use lib.Bits.{bitAnd, bitOr, and-le-r, and-mask}
 use lib.Pow.{pow-pos}
 use Rattle.std.proofs.shelf.Tests.{cases-lt}
-use Rattle.atoms.specs.Sets.{digit, Has, Within}
-use Rattle.atoms.proofs.Digits.{ext, same-digit, lacks-not, digit-of-zero, digit-zero, digit-suc, has-or-lacks, has-and, has-and-l, has-and-r, has-or-l, has-or-r, has-or-cases, mod-digit, low-digit}
+use Rattle.atoms.specs.Sets.{digit, Has, Within, clipped}
+use Rattle.atoms.proofs.Digits.{ext, same-digit, lacks-not, digit-of-zero, digit-zero, digit-suc, has-or-lacks, has-and, has-and-l, has-and-r, has-or-l, has-or-r, has-or-cases, mod-digit, low-digit, pow-only}
 
 -- ---- Within is an order
 pub within-refl : (a : ℕ) → Within a a
@@ -62,6 +62,10 @@ within-le {a} {b} p = omega (arith, test-within p, and-le-r a b)
 pub within-lt : {a b : ℕ} → Within a b → (a ≡ b → ⊥) → a < b
 within-lt p f = omega (arith, within-le p)
 
+-- an atom that a set has, alone
+pub atom-within : {s : ℕ} (i : ℕ) → Has s i → Within (2 ^ i) s
+atom-within {s} i h = record { at = λ j q. subst (Has s) (pow-only i j q) h }
+
 -- every atom below w
 pub below-within : {s : ℕ} (w : ℕ) → s < 2 ^ w → Within s (2 ^ w - 1)
 below-within {s} w h = within-test (and-mask s w ∙ mod-eq-of-lt h)
@@ -85,5 +89,14 @@ within-mod {a} {b} w p = record {
   at = λ i h. elim (cases-lt i w) [
     | inl k ↦ mod-digit b w i k ∙ p .at i (sym (mod-digit a w i k) ∙ h)
     | inr k ↦ absurd (lacks-not (a % 2 ^ w) i (low-digit (a % 2 ^ w) i w (mod-lt a (pow-pos w)) k) h)
+  ];
+}
+
+-- the atoms of a set below a width are in the set
+pub clipped-within : (w s : ℕ) → Within (clipped w s) s
+clipped-within w s = record {
+  at = λ i h. elim (cases-lt i w) [
+    | inl k ↦ sym (mod-digit s w i k) ∙ h
+    | inr k ↦ absurd (lacks-not (clipped w s) i (low-digit (clipped w s) i w (mod-lt s (pow-pos w)) k) h)
   ];
 }

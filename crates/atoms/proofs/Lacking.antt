@@ -1,16 +1,11 @@
 -- The atoms of one set that another lacks, as `a & !b` has them, and sets that have no atom in common.
-use mathlib.Core.Path.{_≡_, refl, sym, ap, _∙_, subst}
-use mathlib.Core.Bool.{Bool, true, false, not, _&&_}
-use mathlib.Core.Logic.{_⊎_, inl, inr}
-use Prim.Native.Nat.{ℕ, _-_, _<_, _≤_, _^_}
-use native.Mathlib.Omega.{arith}
+use mathlib.Core.Path.{_≡_, sym, ap, _∙_, subst}
+use mathlib.Core.Logic.{inl, inr}
+use Prim.Native.Nat.{ℕ, _-_, _<_, _^_}
 use lib.Bits.{bitAnd}
-use Rattle.std.proofs.shelf.Tests.{cases-lt, and-parts, and-from, eqb-true, eq-eqb, ne-eqb, not-true, eqb-false}
-use Rattle.atoms.specs.Sets.{digit, Has, has, Within, Apart, lacking, collected}
-use Rattle.atoms.specs.Bounded.{is-open}
-use Rattle.atoms.specs.declared.bounds.Bounds.{Bounds}
-use Rattle.atoms.proofs.Digits.{digit-of-zero, empty-zero, has-or-lacks, lacks-not, lacks-from, has-and, has-and-l, has-and-r, low-digit, not-has, not-lacks}
-use Rattle.atoms.proofs.Collecting.{collected-is}
+use Rattle.std.proofs.shelf.Tests.{cases-lt}
+use Rattle.atoms.specs.Sets.{digit, Has, Apart, lacking}
+use Rattle.atoms.proofs.Digits.{digit-of-zero, empty-zero, lacks-not, lacks-from, has-and, has-and-l, has-and-r, low-digit, not-has, not-lacks, pow-only}
 
 pub below-wide : (w s i : ℕ) → s < 2 ^ w → Has s i → i < w
 below-wide w s i h p = elim (cases-lt i w) [ inl k ↦ k | inr k ↦ absurd (lacks-not s i (low-digit s i w h k) p) ]
@@ -25,28 +20,16 @@ module _ (a b : ℕ) (ha : a < 2 ^ 64) (hb : b < 2 ^ 64) where
   pub lacking-in : (i : ℕ) → Has a i → digit b i ≡ 0 → Has (lacking a b) i
   lacking-in i p e = has-and a (2 ^ 64 - 1 - b) i p (not-has 64 b i hb (below-wide 64 a i ha p) e)
 
-  pub lacking-none : lacking a b ≡ 0 → Within a b
-  lacking-none e = record {
-    at = λ i p. elim (has-or-lacks b i) [
-      | inl q ↦ q
-      | inr n ↦ absurd (lacks-not (lacking a b) i (ap (λ (x : ℕ). digit x i) e ∙ digit-of-zero i) (lacking-in i p n))
-    ];
-  }
-
--- the open atoms
-pub open-collected : (b : Bounds) → b .lower < 2 ^ 64 → b .upper < 2 ^ 64 → lacking (b .upper) (b .lower) ≡ collected (is-open b) 64
-open-collected b hl hu = collected-is (is-open b) 64 (lacking (b .upper) (b .lower))
-    (λ i h.
-    let p = lacking-has (b .upper) (b .lower) hu hl i h in
-    let e = lacking-lacks (b .upper) (b .lower) hu hl i h in
-    (below-wide 64 (b .upper) i hu p, and-from (has (b .upper) i) (not (has (b .lower) i)) (eq-eqb (digit (b .upper) i) 1 p) (ap not (ne-eqb (digit (b .lower) i) 1 (λ q. lacks-not (b .lower) i e q)))))
-    (λ i k t.
-    let q = and-parts (has (b .upper) i) (not (has (b .lower) i)) t in
-    lacking-in (b .upper) (b .lower) hu hl i (eqb-true (digit (b .upper) i) 1 (q .0)) (lacks-from (b .lower) i (λ h. eqb-false (digit (b .lower) i) 1 (not-true (has (b .lower) i) (q .1)) h)))
-
 -- ---- no atom in common
 pub apart-from : (a b : ℕ) → bitAnd a b ≡ 0 → Apart a b
 apart-from a b e i p q = lacks-not (bitAnd a b) i (ap (λ (x : ℕ). digit x i) e ∙ digit-of-zero i) (has-and a b i p q)
+
+pub zero-apart : (a : ℕ) → Apart 0 a
+zero-apart a i p q = lacks-not 0 i (digit-of-zero i) p
+
+-- an atom that a set lacks, alone
+pub atom-apart : (i a : ℕ) → digit a i ≡ 0 → Apart (2 ^ i) a
+atom-apart i a e j p q = lacks-not a i e (subst (Has a) (sym (pow-only i j p)) q)
 
 pub apart-none : (a b : ℕ) → Apart a b → bitAnd a b ≡ 0
 apart-none a b f = empty-zero (bitAnd a b) (λ i. lacks-from (bitAnd a b) i (λ h. f i (has-and-l a b i h) (has-and-r a b i h)))

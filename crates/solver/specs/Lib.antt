@@ -1,0 +1,4 @@
+pub mod Lists
+pub mod Pegs
+pub mod Search
+pub mod Fronts

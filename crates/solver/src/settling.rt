@@ -15,7 +15,7 @@ use atoms::full;
 use faults::BenchFault;
 
 // The climb by sure from no atom, under the upper.
-fn climb_lower<A: Approximator>(pile: &A, upper: Interpretation) -> Interpretation
+pub(crate) fn climb_lower<A: Approximator>(pile: &A, upper: Interpretation) -> Interpretation
     requires { ⌜ Within (sure (now pile) upper upper) upper ⌝ }
     ensures { λ r. ⌜ Climbs (λ x. sure (now (pile .entry)) x upper) 0 r ⌝ }
 {

@@ -1,5 +1,5 @@
 use native.Mathlib.Omega.{arith}
-use Rattle.atoms.proofs.Lacking.{open-collected}
+use Rattle.atoms.proofs.Openness.{open-collected}
 use Rattle.atoms.proofs.bounds.Bounds.open_atoms.Needs as need
 
 pub returns : need.returns
