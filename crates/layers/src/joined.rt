@@ -1,0 +1,45 @@
+// Two approximators side by side, over the same atoms.
+ghost use mathlib.Core.Path.{_≡_};
+ghost use Prim.Native.Nat.{ℕ, _<_, _≤_, _^_};
+ghost use Rattle.atoms.specs.Sets.{Within, clipped};
+ghost use Rattle.approx.specs.Meanings.{meaning};
+ghost use Rattle.layers.specs.Joined.{joined};
+use approx::Approximator;
+use atoms::Bounds;
+use atoms::Interpretation;
+
+// What either answers is answered; the width is the larger of the two.
+#[derive(Drop)]
+pub struct Joined<A, B> {
+    left: A,
+    right: B,
+}
+
+impl<A: Approximator, B: Approximator> Joined<A, B> {
+    // The two side by side.
+    pub fn new(left: A, right: B) -> Joined<A, B>
+        ensures { λ r. ⌜ r .left ≡ left ⌝ ∗ ⌜ r .right ≡ right ⌝ }
+    {
+        Joined { left, right }
+    }
+}
+
+pub impl<A: Approximator, B: Approximator> Approximator for Joined<A, B> as JoinedApproximator {
+    ghost width = { λ j. joined (meaning A·Approximator (j .left)) (meaning B·Approximator (j .right)) .width };
+
+    ghost sure = { λ j. joined (meaning A·Approximator (j .left)) (meaning B·Approximator (j .right)) .sure };
+
+    ghost may = { λ j. joined (meaning A·Approximator (j .left)) (meaning B·Approximator (j .right)) .may };
+
+    fn width(&self) -> u8 {
+        self.left.width().max(self.right.width())
+    }
+
+    fn sure(&self, bounds: Bounds) -> Interpretation {
+        self.left.sure(bounds) | self.right.sure(bounds)
+    }
+
+    fn may(&self, bounds: Bounds) -> Interpretation {
+        self.left.may(bounds) | self.right.may(bounds)
+    }
+}
