@@ -1,1 +1,3 @@
 mod Joining
+mod Tripping
+mod Cutting

@@ -1,1 +1,3 @@
 pub mod Joined
+pub mod Triggers
+pub mod CutOuts
