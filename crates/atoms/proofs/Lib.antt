@@ -3,4 +3,5 @@ pub mod Inclusion
 pub mod Counting
 pub mod Collecting
 pub mod Lacking
+pub mod Moving
 pub mod Ordering

@@ -37,9 +37,10 @@ module _ (t : TriggerTable) {m : Meaning} (laws : Lawful m) where
     wide = laws .wide;
     exact = λ z. ap (λ (s : ℕ). lacking s (dropped t (m .width) z)) (laws .exact z);
     precise = λ l k v u p q r.
-        let x = laws .precise l k v u p q r in
-        (lacking-within (few u) (small (laws .below k v q .0)) (few v) (x .0) (dropped-up r),
-         lacking-within (few k) (small (laws .below l u (within-trans p (within-trans q r)) .1)) (few l) (x .1) (dropped-up p));
+        let x = laws .precise l k v u p q r in (
+          lacking-within (few u) (small (laws .below k v q .0)) (few v) (x .0) (dropped-up r),
+          lacking-within (few k) (small (laws .below l u (within-trans p (within-trans q r)) .1)) (few l) (x .1) (dropped-up p),
+        );
     below = λ l u p.
         let x = laws .below l u p in
         (less (m .sure l u) (dropped t (m .width) u) (x .0), less (m .may l u) (dropped t (m .width) l) (x .1));
