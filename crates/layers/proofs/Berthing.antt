@@ -7,14 +7,13 @@ use lib.Bits.{bitAnd, and-mask}
 use lib.Pow.{pow-pos}
 use Rattle.std.proofs.shelf.Bits.{field-of, shl-below}
 use Rattle.atoms.specs.Sets.{Within, all-below, clipped}
-use Rattle.atoms.specs.declared.bounds.Bounds.{Bounds}
 use Rattle.atoms.proofs.Digits.{mod-mod-wide}
 use Rattle.atoms.proofs.Inclusion.{within-mod}
 use Rattle.atoms.proofs.Moving.{within-down, within-up}
 use Rattle.approx.specs.Meanings.{Meaning, meaning}
 use Rattle.approx.specs.declared.approximator.Approximator.{Ghosts}
 use Rattle.approx.proofs.Laws.{Lawful}
-use Rattle.layers.specs.Shifts.{lowered, raised, asked, berthed}
+use Rattle.layers.specs.Shifts.{lowered, raised, berthed}
 use Rattle.layers.specs.Berths.{MovedUp, Granted}
 use Rattle.layers.specs.declared.slot.Slot.{Slot}
 
@@ -29,10 +28,12 @@ slot-raised p w s mask h e =
     let m : min w 64 ≡ w = omega arith in
     ap (bitAnd (s * 2 ^ p % 2 ^ 64)) (e ∙ ap all-below m) ∙ and-mask (s * 2 ^ p % 2 ^ 64) w ∙ mod-mod-wide (s * 2 ^ p) w 64 h
 
--- a question that is not crossed is not crossed when it is moved down, so that the pile answers by its meaning
-pub pile-answers : (p w v : ℕ) (f : ℕ → ℕ → ℕ) (b a : Bounds) {x r : ℕ} → a ≡ asked p w b → (Within (clipped v (a .lower)) (clipped v (a .upper)) → x ≡ f (a .lower) (a .upper)) → r ≡ raised p w x → Within (clipped w (b .lower)) (clipped w (b .upper)) → r ≡ raised p w (f (lowered p w (b .lower)) (lowered p w (b .upper)))
-pile-answers p w v f b a {x} e answers q k =
-    q ∙ ap (raised p w) (subst (λ (d : Bounds). Within (clipped v (d .lower)) (clipped v (d .upper)) → x ≡ f (d .lower) (d .upper)) e answers (within-mod v (within-down p k)))
+-- a question that is not crossed is crossed below no width when it is moved down
+pub asked-proper : (p w v l u : ℕ) → Within (clipped w l) (clipped w u) → Within (clipped v (lowered p w l)) (clipped v (lowered p w u))
+asked-proper p w v l u q = within-mod v (within-down p q)
+
+pub pile-answers : (f : ℕ → ℕ → ℕ) {l u k v x : ℕ} → l ≡ k → u ≡ v → x ≡ f l u → x ≡ f k v
+pile-answers f p q e = e ∙ ap₂ f p q
 
 -- ---- the laws
 module _ (p w : ℕ) where

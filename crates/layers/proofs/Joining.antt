@@ -50,7 +50,3 @@ module _ {m n : Meaning} (a : Lawful m) (b : Lawful n) where
         let y = ignores-wide b (max (m .width) (n .width)) (le-max-right (m .width) (n .width)) l u p in
         (ap₂ bitOr (x .0) (y .0), ap₂ bitOr (x .1) (y .1));
   }
-
--- a question that is not crossed is crossed on neither side, so that both answer by their meaning
-pub both-answer : (v w l u : ℕ) {x y s t : ℕ} → (Within (clipped v l) (clipped v u) → x ≡ s) → (Within (clipped w l) (clipped w u) → y ≡ t) → Within (clipped (max v w) l) (clipped (max v w) u) → bitOr x y ≡ bitOr s t
-both-answer v w l u f g p = ap₂ bitOr (f (within-narrow l u v (max v w) (le-max-left v w) p)) (g (within-narrow l u w (max v w) (le-max-right v w) p))

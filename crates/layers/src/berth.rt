@@ -4,7 +4,7 @@ ghost use Prim.Native.Nat.{ℕ, _<_, _≤_, _^_};
 ghost use Rattle.std.specs.Results.{Cases};
 ghost use Rattle.atoms.specs.Sets.{Within, clipped};
 ghost use Rattle.approx.specs.Meanings.{meaning};
-ghost use Rattle.layers.specs.Shifts.{berthed};
+ghost use Rattle.layers.specs.Shifts.{answered, berthed};
 ghost use Rattle.layers.specs.Berths.{Granted, Denied};
 use super::slot::Slot;
 use approx::Approximator;
@@ -43,6 +43,20 @@ impl<A: Approximator> Berth<A> {
             slot: Slot::new(first as u8, width as u8),
         })
     }
+
+    // What the pile answers to the question moved down, which is crossed only where the question that came is.
+    fn sure_below(&self, bounds: Bounds) -> Interpretation
+        ensures { λ r. ⌜ (Within (clipped (now (self .entry) .slot .width) (bounds .lower)) (clipped (now (self .entry) .slot .width) (bounds .upper)) → r ≡ answered (now (self .entry) .slot .first) (now (self .entry) .slot .width) (sure (now (self .entry) .pile)) (bounds .lower) (bounds .upper)) ⌝ }
+    {
+        self.pile.sure(self.slot.asked(bounds))
+    }
+
+    // What the pile answers to the question moved down, which is crossed only where the question that came is.
+    fn may_below(&self, bounds: Bounds) -> Interpretation
+        ensures { λ r. ⌜ (Within (clipped (now (self .entry) .slot .width) (bounds .lower)) (clipped (now (self .entry) .slot .width) (bounds .upper)) → r ≡ answered (now (self .entry) .slot .first) (now (self .entry) .slot .width) (may (now (self .entry) .pile)) (bounds .lower) (bounds .upper)) ⌝ }
+    {
+        self.pile.may(self.slot.asked(bounds))
+    }
 }
 
 pub impl<A: Approximator> Approximator for Berth<A> as BerthApproximator {
@@ -57,10 +71,10 @@ pub impl<A: Approximator> Approximator for Berth<A> as BerthApproximator {
     }
 
     fn sure(&self, bounds: Bounds) -> Interpretation {
-        self.slot.raised(self.pile.sure(self.slot.asked(bounds)))
+        self.slot.raised(self.sure_below(bounds))
     }
 
     fn may(&self, bounds: Bounds) -> Interpretation {
-        self.slot.raised(self.pile.may(self.slot.asked(bounds)))
+        self.slot.raised(self.may_below(bounds))
     }
 }

@@ -24,6 +24,20 @@ impl<A: Approximator, B: Approximator> Joined<A, B> {
     }
 }
 
+// What one of the two answers. A question that is not crossed below a larger width is not crossed below its own.
+fn sure_of<A: Approximator>(side: &A, bounds: Bounds) -> Interpretation
+    ensures { λ r. ⌜ ((w : ℕ) → width (now (side .entry)) ≤ w → Within (clipped w (bounds .lower)) (clipped w (bounds .upper)) → r ≡ sure (now (side .entry)) (bounds .lower) (bounds .upper)) ⌝ }
+{
+    side.sure(bounds)
+}
+
+// What one of the two answers. A question that is not crossed below a larger width is not crossed below its own.
+fn may_of<A: Approximator>(side: &A, bounds: Bounds) -> Interpretation
+    ensures { λ r. ⌜ ((w : ℕ) → width (now (side .entry)) ≤ w → Within (clipped w (bounds .lower)) (clipped w (bounds .upper)) → r ≡ may (now (side .entry)) (bounds .lower) (bounds .upper)) ⌝ }
+{
+    side.may(bounds)
+}
+
 pub impl<A: Approximator, B: Approximator> Approximator for Joined<A, B> as JoinedApproximator {
     ghost width = { λ j. joined (meaning A·Approximator (j .left)) (meaning B·Approximator (j .right)) .width };
 
@@ -36,10 +50,10 @@ pub impl<A: Approximator, B: Approximator> Approximator for Joined<A, B> as Join
     }
 
     fn sure(&self, bounds: Bounds) -> Interpretation {
-        self.left.sure(bounds) | self.right.sure(bounds)
+        sure_of(&self.left, bounds) | sure_of(&self.right, bounds)
     }
 
     fn may(&self, bounds: Bounds) -> Interpretation {
-        self.left.may(bounds) | self.right.may(bounds)
+        may_of(&self.left, bounds) | may_of(&self.right, bounds)
     }
 }

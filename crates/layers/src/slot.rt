@@ -1,7 +1,8 @@
 // Where a berth lies among the atoms.
 ghost use mathlib.Core.Path.{_≡_};
 ghost use Prim.Native.Nat.{ℕ, _<_, _≤_};
-ghost use Rattle.layers.specs.Shifts.{lowered, raised, asked};
+ghost use Rattle.atoms.specs.Sets.{Within, clipped};
+ghost use Rattle.layers.specs.Shifts.{lowered, raised};
 use atoms::Bounds;
 use atoms::Interpretation;
 use atoms::full;
@@ -37,9 +38,11 @@ impl Slot {
         (set & full(self.width)) >> self.first
     }
 
-    // The question that is put to what lies in the slot.
+    // The question that is put to what lies in the slot. It is crossed below no width, unless the one that came was.
     pub(super) fn asked(self, bounds: Bounds) -> Bounds
-        ensures { λ r. ⌜ r ≡ asked (self .first) (self .width) bounds ⌝ }
+        ensures lower { λ r. ⌜ r .lower ≡ lowered (self .first) (self .width) (bounds .lower) ⌝ }
+        ensures upper { λ r. ⌜ r .upper ≡ lowered (self .first) (self .width) (bounds .upper) ⌝ }
+        ensures proper { λ r. ⌜ ((w : ℕ) → Within (clipped (self .width) (bounds .lower)) (clipped (self .width) (bounds .upper)) → Within (clipped w (r .lower)) (clipped w (r .upper))) ⌝ }
     {
         Bounds {
             lower: self.lowered(bounds.lower),
