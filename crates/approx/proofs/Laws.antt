@@ -14,6 +14,7 @@ pub record Lawful (m : Meaning) : Type 0 where
   pub exact : (z : ℕ) → m .sure z z ≡ m .may z z
   pub precise : (l k v u : ℕ) → Within l k → Within k v → Within v u → Within (m .sure l u) (m .sure k v) × Within (m .may k v) (m .may l u)
   pub below : (l u : ℕ) → Within l u → (m .sure l u < 2 ^ m .width) × (m .may l u < 2 ^ m .width)
+  pub ignores : (l u : ℕ) → Within (clipped (m .width) l) (clipped (m .width) u) → (m .sure l u ≡ m .sure (clipped (m .width) l) (clipped (m .width) u)) × (m .may l u ≡ m .may (clipped (m .width) l) (clipped (m .width) u))
 
 module _ {X : Type 0} (G : Ghosts X)
     (wide : (a : X) → (0 < G .width a) × (G .width a ≤ 64))
@@ -51,4 +52,4 @@ module _ {X : Type 0} (G : Ghosts X)
 
   -- the meaning of every value of an implementation keeps the laws
   pub lawful : Lawful (meaning G a)
-  lawful = record { wide = wide a; exact = exact-all; precise = precise-all; below = below-all }
+  lawful = record { wide = wide a; exact = exact-all; precise = precise-all; below = below-all; ignores = ignores a }

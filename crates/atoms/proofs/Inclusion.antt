@@ -8,7 +8,7 @@ use lib.Bits.{bitAnd, bitOr, and-le-r, and-mask}
 use lib.Pow.{pow-pos}
 use Rattle.std.proofs.shelf.Tests.{cases-lt}
 use Rattle.atoms.specs.Sets.{digit, Has, Within, clipped}
-use Rattle.atoms.proofs.Digits.{ext, same-digit, lacks-not, digit-of-zero, digit-zero, digit-suc, has-or-lacks, has-and, has-and-l, has-and-r, has-or-l, has-or-r, has-or-cases, mod-digit, low-digit, pow-only}
+use Rattle.atoms.proofs.Digits.{ext, same-digit, lacks-not, digit-of-zero, digit-zero, digit-suc, has-or-lacks, has-and, has-and-l, has-and-r, has-or-l, has-or-r, has-or-cases, mod-digit, low-digit, pow-only, mod-mod-wide}
 
 -- ---- Within is an order
 pub within-refl : (a : ℕ) → Within a a
@@ -100,3 +100,7 @@ clipped-within w s = record {
     | inr k ↦ absurd (lacks-not (clipped w s) i (low-digit (clipped w s) i w (mod-lt s (pow-pos w)) k) h)
   ];
 }
+
+-- what is within below a width is so below a smaller one
+pub within-narrow : (a b v w : ℕ) → v ≤ w → Within (a % 2 ^ w) (b % 2 ^ w) → Within (a % 2 ^ v) (b % 2 ^ v)
+within-narrow a b v w h p = rw (← mod-mod-wide a v w h, ← mod-mod-wide b v w h) (within-mod v p)

@@ -4,4 +4,5 @@ pub mod Counting
 pub mod Collecting
 pub mod Lacking
 pub mod Openness
+pub mod Moving
 pub mod Ordering

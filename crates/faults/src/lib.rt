@@ -54,6 +54,7 @@ pub enum SheetFault {
 #[derive(Clone, Copy, Debug, PartialEq, Eq)]
 pub enum BenchFault {
     Sheet(SheetFault),
+    BerthTooWide(u32),
     Crossed,
     NoSuchAtom(u8),
 }
@@ -145,6 +146,7 @@ impl BenchFault {
     {
         let (number, spot) = match self {
             BenchFault::Sheet(fault) => return fault.told(),
+            BenchFault::BerthTooWide(width) => (13, Spot::new(0, width)),
             BenchFault::Crossed => (14, Spot::NOWHERE),
             BenchFault::NoSuchAtom(atom) => (16, Spot::new(0, atom as u32)),
         };

@@ -1,0 +1,5 @@
+mod Narrowing
+mod Summing
+mod Spanning
+mod Bounding
+mod Deciding

@@ -1,0 +1,4 @@
+pub mod Conditions
+pub mod Sums
+pub mod Aggregates
+pub mod Readings

@@ -1,0 +1,4 @@
+mod Joining
+mod Tripping
+mod Cutting
+mod Berthing

@@ -1,0 +1,5 @@
+pub mod Joined
+pub mod Triggers
+pub mod CutOuts
+pub mod Shifts
+pub mod Berths
