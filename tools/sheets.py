@@ -65,7 +65,7 @@ def load_line(rng, marks, most):
 
 def rule_line(rng, marks, loads):
     head = rng.choice(marks)
-    number = rng.choice([0, 1, 1, 1, 1, 2, 2, 2, 3, 4] + ([16] if rng.random() < 0.1 else []))
+    number = rng.choice([0, 1, 1, 1, 1, 1, 1, 2, 2, 2, 2, 3, 3, 4] + ([16] if rng.random() < 0.1 else []))
     items = []
     for _ in range(number):
         if loads and rng.random() < 0.4:
@@ -76,7 +76,7 @@ def rule_line(rng, marks, loads):
 
 
 def relay_line(rng, mark, marks):
-    number = rng.choice([0, 1, 1, 1, 2, 2, 3, 5] + ([64] if rng.random() < 0.03 else []))
+    number = rng.choice([0, 1, 1, 1, 1, 1, 2, 2, 2, 3, 5] + ([64] if rng.random() < 0.03 else []))
     return " ".join([mark, "!"] + [rng.choice(marks) for _ in range(number)])
 
 
@@ -86,12 +86,29 @@ def valid(rng, atoms=None, entries=16, rules=True):
         atoms = rng.choice([1, 2, 2, 3, 3, 3, 4, 4, 4, 5, 5, 6, 7, 8, rng.randint(9, 12), rng.randint(1, 64)])
     marks = names(rng, atoms)
     loads = rng.choice([0, 1, 1, 2, 3, 4, rng.randint(0, 32)]) if rng.random() < 0.8 else 0
-    wanted = rng.randint(0, min(128, 2 * atoms + 2)) if rules and rng.random() < 0.9 else 0
-    relayed = rng.sample(marks, rng.randint(0, atoms)) if rng.random() < 0.5 or not rules else []
-    return join([marks,
-                 [load_line(rng, marks, entries) for _ in range(loads)],
-                 [rule_line(rng, marks, loads) for _ in range(wanted)],
-                 [relay_line(rng, mark, marks) for mark in relayed]])
+    rule_lines, relay_lines = [], []
+
+    # Often some pairs of atoms that exclude each other, by rules or relays: they leave things open, to many standings.
+    free = rng.sample(marks, atoms)
+    while len(free) > 1 and rng.random() < 0.6:
+        one, other = free.pop(), free.pop()
+        if rules and rng.random() < 0.7:
+            rule_lines += [f"{one} if not {other}", f"{other} if not {one}"]
+        else:
+            relay_lines += [f"{one} ! {other}", f"{other} ! {one}"]
+
+    if rules and rng.random() < 0.9:
+        heads = free if free and rng.random() < 0.7 else marks
+        for _ in range(min(128 - len(rule_lines), rng.randint(0, 2 * len(heads) + 1))):
+            line = rule_line(rng, marks, loads)
+            if heads is free:
+                line = " ".join([rng.choice(free)] + line.split(" ")[1:])
+            rule_lines.append(line)
+    if rng.random() < 0.4 or not rules:
+        relay_lines += [relay_line(rng, mark, marks) for mark in rng.sample(free, rng.randint(0, len(free)))]
+    rng.shuffle(rule_lines)
+    rng.shuffle(relay_lines)
+    return join([marks, [load_line(rng, marks, entries) for _ in range(loads)], rule_lines, relay_lines])
 
 
 # ---------------------------------------------------------------- damage
