@@ -1,8 +1,8 @@
 #!/usr/bin/env python3
 """Tests of the oracle by itself.
 
-    selftest.py [FOLDER]    FOLDER has NAME.sheet with NAME.expect, and NAME.args where the reading is not the bound one;
-                            without it the examples beside this file
+    selftest.py [FOLDER]    FOLDER has NAME.sheet with NAME.expect, and NAME.args where the reading is not the bound
+                            one; without it the examples beside this file
 
 1. Every example prints what was worked out for it by hand.
 2. On random small sheets, the oracle's answer is that of a third way of saying the same, below, which uses Python sets

@@ -63,7 +63,8 @@ def corpus(folder):
 def run(command, data):
     """What the program prints, and how it ended if that was no proper end."""
     try:
-        done = subprocess.run(command, input=data, stdout=subprocess.PIPE, stderr=subprocess.DEVNULL, timeout=TIME_LIMIT)
+        done = subprocess.run(command, input=data, stdout=subprocess.PIPE, stderr=subprocess.DEVNULL,
+                              timeout=TIME_LIMIT)
     except subprocess.TimeoutExpired:
         return b"", f"not done after {TIME_LIMIT} seconds"
     return done.stdout, f"killed by signal {-done.returncode}" if done.returncode < 0 else ""
@@ -99,7 +100,8 @@ def main():
             sys.exit(1)
         agreed += 1
         words = expected.split()
-        kind = "refused " + words[1] if expected.startswith("refused ") and words[2:3] in (["text"], ["sheet"]) else "lawful"
+        unread = words[0] == "refused" and words[2:3] in (["text"], ["sheet"])
+        kind = "refused " + words[1] if unread else "lawful"
         kinds[kind] = kinds.get(kind, 0) + 1
     print(f"{agreed} agreed: " + ", ".join(f"{kinds[kind]} {kind}" for kind in sorted(
         kinds, key=lambda kind: (kind != "lawful", int((kind.split() + ["0"])[1])))))
