@@ -179,6 +179,16 @@ def damage_number(rng, data):
     return data[:m.start()] + new + data[m.end():]
 
 
+def damage_relay(rng, data):
+    """The first word of a relay line put in place of another's."""
+    lines = data.split(b"\n")
+    relays = [i for i, line in enumerate(lines) if line.split(b" ")[1:2] == [b"!"]]
+    if len(relays) > 1:
+        i, j = rng.sample(relays, 2)
+        lines[i] = b" ".join(lines[j].split(b" ")[:1] + lines[i].split(b" ")[1:])
+    return b"\n".join(lines)
+
+
 def damage_contents(rng, data):
     """Two contents numbers changed against each other, so that the number of lines still fits."""
     lines = data.split(b"\n")
@@ -203,5 +213,5 @@ def damaged(rng, data):
     for _ in range(rng.choice([1, 1, 1, 2, 3])):
         if data:
             data = rng.choice([damage_byte, damage_words, damage_words, damage_words, damage_words, damage_lines,
-                               damage_number, damage_number, damage_contents, damage_size])(rng, data)
+                               damage_number, damage_number, damage_relay, damage_contents, damage_size])(rng, data)
     return data
