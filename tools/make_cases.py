@@ -1,14 +1,15 @@
 #!/usr/bin/env python3
 """Writes the corpus: sheets of every kind, and what the oracle answers to each.
 
-    make_cases.py [FOLDER] [--mode relays|settle|whole|all] [--split]
+    make_cases.py [FOLDER] [--mode reading|relays|settle|whole|all] [--split]
 
     FOLDER/cases.bin          for each case its length in bytes (decimal), a newline, then exactly that many bytes
     FOLDER/cases.txt          for each case its number and what it is about
-    FOLDER/expected-MODE.txt  for each case a line `case K` (from 1), then the answer; mode all writes the three
+    FOLDER/expected-MODE.txt  for each case a line `case K` (from 1), then the answer; mode all writes all four
     FOLDER/NNNN.sheet         with --split: each case as a file of its own
 
-FOLDER is data/ beside tools/ if not given. The same cases come out every time.
+FOLDER is data/ beside tools/ if not given. The same cases come out every time. The program `cases` runs on cases.bin, and
+its stored output is expected-reading.txt: the refusal of each sheet, or `accepted`.
 
 A case that is to be refused says so here, by hand: the number, and the spot by the sign « in its text (which is taken
 out). The oracle has to agree, or nothing is written. So reading is tested against this list and not only against itself.
@@ -518,19 +519,30 @@ def add_random():
 # ---------------------------------------------------------------- writing
 
 
+MODES = ("reading", "relays", "settle", "whole")
+
+
+def answered(data, mode):
+    """The oracle's answer; in mode reading only whether the sheet is read."""
+    if mode != "reading":
+        return oracle.answer(data, mode)
+    first = oracle.answer(data, "relays").splitlines(keepends=True)[0]
+    return first if first.startswith("refused ") else "accepted\n"
+
+
 def main(words):
     folder, mode, split = os.path.join(HERE, "..", "data"), "all", False
     words = list(words)
     while words:
         word = words.pop(0)
-        if word == "--mode" and words and words[0] in ("relays", "settle", "whole", "all"):
+        if word == "--mode" and words and words[0] in MODES + ("all",):
             mode = words.pop(0)
         elif word == "--split":
             split = True
         elif not word.startswith("-"):
             folder = word
         else:
-            sys.exit("usage: make_cases.py [FOLDER] [--mode relays|settle|whole|all] [--split]")
+            sys.exit("usage: make_cases.py [FOLDER] [--mode reading|relays|settle|whole|all] [--split]")
 
     for part in (add_examples, add_text, add_contents, add_names, add_bodies, add_extremes, add_meanings, add_random):
         part()
@@ -546,10 +558,10 @@ def main(words):
         for number, (_, data) in enumerate(CASES, 1):
             with open(os.path.join(folder, f"{number:04}.sheet"), "wb") as out:
                 out.write(data)
-    for each in ("relays", "settle", "whole") if mode == "all" else (mode,):
+    for each in MODES if mode == "all" else (mode,):
         with open(os.path.join(folder, f"expected-{each}.txt"), "w") as out:
             for number, (_, data) in enumerate(CASES, 1):
-                out.write(f"case {number}\n" + oracle.answer(data, each))
+                out.write(f"case {number}\n" + answered(data, each))
     print(f"{len(CASES)} cases in {os.path.normpath(folder)}")
 
 
