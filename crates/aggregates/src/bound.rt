@@ -1,8 +1,4 @@
 // The bound reading: it goes by the least and the greatest sum.
-ghost use mathlib.Core.Path.{_≡_};
-ghost use mathlib.Core.Bool.{Bool, true, false};
-ghost use Prim.Native.Nat.{ℕ};
-ghost use Rattle.atoms.specs.Sets.{Within};
 ghost use Rattle.aggregates.specs.Readings.{bound-sure, bound-may};
 use super::comparing::always;
 use super::comparing::sometimes;

@@ -1,6 +1,5 @@
 // Sums held against a limit.
 ghost use mathlib.Core.Path.{_≡_};
-ghost use mathlib.Core.Bool.{Bool};
 ghost use Rattle.aggregates.specs.Aggregates.{compares};
 ghost use Rattle.aggregates.specs.Readings.{always, sometimes};
 use super::sums::Span;

@@ -1,8 +1,6 @@
 // The plain reading: it says nothing until every entry is decided.
 ghost use mathlib.Core.Path.{_≡_};
-ghost use mathlib.Core.Bool.{Bool, true, false};
-ghost use Prim.Native.Nat.{ℕ};
-ghost use Rattle.atoms.specs.Sets.{Within};
+ghost use mathlib.Core.Bool.{false};
 ghost use Rattle.aggregates.specs.Aggregates.{met-holds};
 ghost use Rattle.aggregates.specs.Sums.{entries-of, some-open};
 ghost use Rattle.aggregates.specs.Readings.{plain-sure, plain-may};

@@ -1,6 +1,5 @@
 // The sums that the entries of an aggregate can give.
 ghost use mathlib.Core.Path.{_≡_};
-ghost use mathlib.Core.Bool.{Bool};
 ghost use Rattle.tables.specs.Rows.{in-use};
 ghost use Rattle.aggregates.specs.Sums.{least-of, most-of, low-sum, high-sum, some-open};
 use super::condition::Condition;

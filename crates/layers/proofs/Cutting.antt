@@ -1,6 +1,6 @@
 -- A lawful meaning without its tripped atoms is lawful.
 use mathlib.Core.Path.{_≡_, sym, ap, ap₂}
-use Prim.Native.Nat.{ℕ, _-_, _%_, _<_, _≤_, _^_}
+use Prim.Native.Nat.{ℕ, _-_, _<_, _^_}
 use native.Mathlib.Nat.{mod-mod, lt-of-lt-of-le}
 use native.Mathlib.Omega.{arith}
 use lib.Bits.{and-le-l}

@@ -1,6 +1,6 @@
 -- Two lawful meanings side by side are lawful.
 use mathlib.Core.Path.{_≡_, sym, _∙_, ap₂}
-use Prim.Native.Nat.{ℕ, max, _<_, _≤_, _^_, _%_}
+use Prim.Native.Nat.{ℕ, max, _<_, _≤_, _^_}
 use native.Mathlib.Nat.{le-max-left, le-max-right, lt-of-lt-of-le}
 use native.Mathlib.Omega.{arith}
 use lib.Bits.{bitOr, or-lt}

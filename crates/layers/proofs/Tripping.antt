@@ -1,15 +1,15 @@
 -- What a set trips, and that a larger set trips more.
-use mathlib.Core.Path.{_≡_, sym, _∙_, ap, ap₂}
-use mathlib.Core.Bool.{true, not}
+use mathlib.Core.Path.{_≡_, _∙_, ap, ap₂}
+use mathlib.Core.Bool.{true}
 use mathlib.Core.List.{List}
-use Prim.Native.Nat.{ℕ, min, _%_, _<_, _≤_, _^_}
+use Prim.Native.Nat.{ℕ, min, _<_, _≤_}
 use native.Mathlib.Omega.{arith}
 use lib.Bits.{bitAnd, and-mask}
 use lib.Dec.{eqb}
 use lib.ListN.{length}
 use Rattle.std.proofs.shelf.Lists.{set-past}
 use Rattle.std.proofs.shelf.Tests.{not-true, not-from-false, eqb-false, ne-eqb}
-use Rattle.atoms.specs.Sets.{Has, Within, all-below, clipped}
+use Rattle.atoms.specs.Sets.{Has, Within, all-below}
 use Rattle.atoms.proofs.Collecting.{collected-in, collected-from}
 use Rattle.atoms.proofs.Lacking.{apart-from, common-atom}
 use Rattle.layers.specs.Triggers.{triggers-of, Trips, trips, tripped, with-triggers}

@@ -9,7 +9,7 @@ use Rattle.layers.specs.declared.berth.Berth.{Berth}
 use Rattle.layers.specs.declared.berth.RefusedBerth.{RefusedBerth}
 use Rattle.layers.specs.Shifts.{berthed}
 
--- a meaning n is m moved up by p: on every bounds, atom i of what m answers to the bounds moved down is atom p + i of the answer
+-- a meaning n is m moved up by p: asked on bounds, it answers what m answers to the bounds moved down, with atom i as atom p + i
 pub record MovedUp (p : ℕ) (m n : Meaning) : Type 0 where
   pub width : n .width ≡ p + m .width
   pub sure : (l u : ℕ) → Within (clipped (n .width) l) (clipped (n .width) u) → n .sure l u ≡ m .sure (l / 2 ^ p) (u / 2 ^ p) * 2 ^ p

@@ -1,6 +1,5 @@
 // A pile moved up: its atoms begin at a first place.
 ghost use mathlib.Core.Path.{_≡_};
-ghost use Prim.Native.Nat.{ℕ, _<_, _≤_, _^_};
 ghost use Rattle.std.specs.Results.{Cases};
 ghost use Rattle.atoms.specs.Sets.{Within, clipped};
 ghost use Rattle.approx.specs.Meanings.{meaning};
@@ -19,7 +18,7 @@ pub struct Berth<A> {
     slot: Slot,
 }
 
-// A pile that would not lie below 64 atoms, handed back as it was.
+// A pile that would reach past the 64 atoms, and why it is refused: the pile is as it was.
 #[derive(Drop)]
 pub struct RefusedBerth<A> {
     pub fault: BenchFault,
@@ -44,14 +43,14 @@ impl<A: Approximator> Berth<A> {
         })
     }
 
-    // What the pile answers to the question moved down, which is crossed only where the question that came is.
+    // What is surely on in the pile by the question moved down, which is crossed only where the question that came is.
     fn sure_below(&self, bounds: Bounds) -> Interpretation
         ensures { λ r. ⌜ (Within (clipped (now (self .entry) .slot .width) (bounds .lower)) (clipped (now (self .entry) .slot .width) (bounds .upper)) → r ≡ answered (now (self .entry) .slot .first) (now (self .entry) .slot .width) (sure (now (self .entry) .pile)) (bounds .lower) (bounds .upper)) ⌝ }
     {
         self.pile.sure(self.slot.asked(bounds))
     }
 
-    // What the pile answers to the question moved down, which is crossed only where the question that came is.
+    // What can be on in the pile, likewise.
     fn may_below(&self, bounds: Bounds) -> Interpretation
         ensures { λ r. ⌜ (Within (clipped (now (self .entry) .slot .width) (bounds .lower)) (clipped (now (self .entry) .slot .width) (bounds .upper)) → r ≡ answered (now (self .entry) .slot .first) (now (self .entry) .slot .width) (may (now (self .entry) .pile)) (bounds .lower) (bounds .upper)) ⌝ }
     {

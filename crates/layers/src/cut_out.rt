@@ -1,7 +1,5 @@
 // A layer that drops atoms: an atom is off where one of its triggers is on.
 ghost use mathlib.Core.Path.{_≡_};
-ghost use Prim.Native.Nat.{ℕ, _<_, _≤_, _^_};
-ghost use Rattle.atoms.specs.Sets.{Within, clipped};
 ghost use Rattle.approx.specs.Meanings.{meaning};
 ghost use Rattle.layers.specs.CutOuts.{dropped, cut-out};
 use super::triggers::TriggerTable;

@@ -1,6 +1,6 @@
 // Two approximators side by side, over the same atoms.
 ghost use mathlib.Core.Path.{_≡_};
-ghost use Prim.Native.Nat.{ℕ, _<_, _≤_, _^_};
+ghost use Prim.Native.Nat.{ℕ, _≤_};
 ghost use Rattle.atoms.specs.Sets.{Within, clipped};
 ghost use Rattle.approx.specs.Meanings.{meaning};
 ghost use Rattle.layers.specs.Joined.{joined};
@@ -24,14 +24,14 @@ impl<A: Approximator, B: Approximator> Joined<A, B> {
     }
 }
 
-// What one of the two answers. A question that is not crossed below a larger width is not crossed below its own.
+// What is surely on by one of the two. A question that is not crossed below a larger width is not crossed below its own.
 fn sure_of<A: Approximator>(side: &A, bounds: Bounds) -> Interpretation
     ensures { λ r. ⌜ ((w : ℕ) → width (now (side .entry)) ≤ w → Within (clipped w (bounds .lower)) (clipped w (bounds .upper)) → r ≡ sure (now (side .entry)) (bounds .lower) (bounds .upper)) ⌝ }
 {
     side.sure(bounds)
 }
 
-// What one of the two answers. A question that is not crossed below a larger width is not crossed below its own.
+// What can be on by one of the two, likewise.
 fn may_of<A: Approximator>(side: &A, bounds: Bounds) -> Interpretation
     ensures { λ r. ⌜ ((w : ℕ) → width (now (side .entry)) ≤ w → Within (clipped w (bounds .lower)) (clipped w (bounds .upper)) → r ≡ may (now (side .entry)) (bounds .lower) (bounds .upper)) ⌝ }
 {

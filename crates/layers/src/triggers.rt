@@ -2,7 +2,7 @@
 ghost use mathlib.Core.Path.{_≡_};
 ghost use mathlib.Core.Bool.{cond};
 ghost use Prim.Native.Nat.{ℕ, min, _^_, _<_};
-ghost use Rattle.atoms.specs.Sets.{Has, collected};
+ghost use Rattle.atoms.specs.Sets.{Has};
 ghost use Rattle.layers.specs.Triggers.{no-triggers, with-triggers, trips, Trips, tripped};
 use atoms::Interpretation;
 use atoms::only;

@@ -1,5 +1,3 @@
-use mathlib.Core.Path.{sym}
-use Rattle.atoms.specs.Sets.{Within, clipped}
 use Rattle.layers.proofs.Berthing.{asked-proper}
 use Rattle.layers.proofs.slot.Slot.asked.Needs as need
 
