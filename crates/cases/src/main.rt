@@ -21,7 +21,9 @@ fn length_line(data: &[u8]) -> Option<(usize, usize)> {
         if *b < b'0' || *b > b'9' || length > 100000 {
             return None;
         }
-        length = length.saturating_mul(10).saturating_add((*b - b'0') as usize);
+        length = length
+            .saturating_mul(10)
+            .saturating_add((*b - b'0') as usize);
     }
     None
 }
