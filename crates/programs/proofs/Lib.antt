@@ -1,0 +1,3 @@
+mod Gathering
+mod Following
+mod Obeying

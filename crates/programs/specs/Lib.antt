@@ -1,0 +1,4 @@
+pub mod Clauses
+pub mod Tables
+pub mod Deriving
+pub mod Programs
