@@ -1,1 +1,1 @@
-mod Standing
+pub mod Standing

@@ -1,3 +1,4 @@
 mod Gathering
-mod Following
-mod Obeying
+pub mod Following
+pub mod Obeying
+mod Naming

@@ -13,16 +13,19 @@ use Rattle.atoms.specs.declared.bounds.Bounds.{Bounds}
 use Rattle.atoms.proofs.Inclusion.{within-antisym, within-mod}
 use Rattle.approx.proofs.Laws.{Lawful}
 use Rattle.tables.specs.declared.table.Aggregate.{Aggregate}
+use Rattle.aggregates.specs.Aggregates.{holds}
+use Rattle.aggregates.specs.declared.reading.Reading.{Ghosts}
 use Rattle.programs.specs.Tables.{width-of, aggregates-of}
 use Rattle.programs.specs.Deriving.{derived, passing}
-use Rattle.programs.specs.Programs.{Verdict, surely, perhaps, below-width, program-meaning}
+use Rattle.programs.specs.Programs.{Verdict, surely, perhaps, below-width, table-meaning, program-meaning}
+use Rattle.programs.specs.declared.program.RuleProgram.{RuleProgram}
 use Rattle.programs.specs.declared.rules.RuleTable.{RuleTable}
 use Rattle.programs.proofs.Following.{derived-up, derived-below, passing-up}
 
 -- what the laws of a reading say of its verdicts
-pub record Honest (sure may : Verdict) : Type 0 where
-  pub truth : (a : Aggregate) (z : ℕ) → sure a z z ≡ may a z z
-  pub precise : (a : Aggregate) (l k v u : ℕ) → Within l k → Within k v → Within v u → (sure a l u ≡ true → sure a k v ≡ true) × (may a l u ≡ false → may a k v ≡ false)
+record Honest (sure may : Verdict) : Type 0 where
+  truth : (a : Aggregate) (z : ℕ) → sure a z z ≡ may a z z
+  precise : (a : Aggregate) (l k v u : ℕ) → Within l k → Within k v → Within v u → (sure a l u ≡ true → sure a k v ≡ true) × (may a l u ≡ false → may a k v ≡ false)
 
 module _ {sure may : Verdict} (honest : Honest sure may) (t : RuleTable) where
   abbrev cut : ℕ → ℕ
@@ -46,8 +49,8 @@ module _ {sure may : Verdict} (honest : Honest sure may) (t : RuleTable) where
   perhaps-down : {l k v u : ℕ} → Within l k → Within k v → Within v u → Within (perhaps may t k v) (perhaps may t l u)
   perhaps-down p q r = derived-up t r p (passing-up _ _ (aggregates-of t) (λ a. widens a p q r))
 
-  pub program-lawful : Lawful (program-meaning sure may t)
-  program-lawful = record {
+  table-lawful : Lawful (table-meaning sure may t)
+  table-lawful = record {
     wide = (omega arith, omega arith);
     exact = λ z. ap (derived t (cut z) (cut z)) (same-passing (cut z));
     precise = λ l k v u p q r.
@@ -58,6 +61,14 @@ module _ {sure may : Verdict} (honest : Honest sure may) (t : RuleTable) where
     below = λ l u p. (derived-below t (cut l) (cut u) (passing (λ a. sure a (cut l) (cut u)) (aggregates-of t)), derived-below t (cut u) (cut l) (passing (λ a. may a (cut l) (cut u)) (aggregates-of t)));
     ignores = λ l u p. (ap₂ (surely sure t) (cut-twice l) (cut-twice u), ap₂ (perhaps may t) (cut-twice l) (cut-twice u));
   }
+
+-- the meaning of every program keeps the laws, by the laws of its reading
+pub program-lawful : {X : Type 0} (G : Ghosts X)
+    → ((r : X) (a : Aggregate) (z : ℕ) → (G .sure r a z z ≡ holds a z) × (G .may r a z z ≡ holds a z))
+    → ((r : X) (a : Aggregate) (l k v u : ℕ) → Within l k → Within k v → Within v u → (G .sure r a l u ≡ true → G .sure r a k v ≡ true) × (G .may r a l u ≡ false → G .may r a k v ≡ false))
+    → (p : RuleProgram X) → Lawful (program-meaning G p)
+program-lawful G truth precise p =
+    table-lawful (record { truth = λ a z. let h = truth (p .reading) a z in h .0 ∙ sym (h .1); precise = precise (p .reading) }) (p .table)
 
 -- ---- as the code finds it
 module _ (t : RuleTable) (judge : Verdict) (b : Bounds) where

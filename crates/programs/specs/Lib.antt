@@ -2,3 +2,4 @@ pub mod Clauses
 pub mod Tables
 pub mod Deriving
 pub mod Programs
+pub mod Normal

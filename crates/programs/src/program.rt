@@ -36,7 +36,7 @@ fn judged<R: Reading>(
     aggregate: &Aggregate,
     bounds: Bounds,
 ) -> bool
-    ensures { λ r. ⌜ (Within (bounds .lower) (bounds .upper) → r ≡ judged (R·Reading .sure (now (reading .entry))) (R·Reading .may (now (reading .entry))) judgement (now (aggregate .entry)) (bounds .lower) (bounds .upper)) ⌝ }
+    ensures { λ r. ⌜ (Within (bounds .lower) (bounds .upper) → r ≡ judged R·Reading (now (reading .entry)) judgement (now (aggregate .entry)) (bounds .lower) (bounds .upper)) ⌝ }
 {
     match judgement {
         Judgement::Surely => reading.sure(aggregate, bounds),
@@ -52,7 +52,7 @@ fn judged_share<R: Reading>(
     number: usize,
     bounds: Bounds,
 ) -> u32
-    ensures { λ r. ⌜ (Within (bounds .lower) (bounds .upper) → r ≡ cond (judged (R·Reading .sure (now (reading .entry))) (R·Reading .may (now (reading .entry))) judgement (now (aggregate .entry)) (bounds .lower) (bounds .upper)) (clipped 32 (2 ^ number)) 0) ⌝ }
+    ensures { λ r. ⌜ (Within (bounds .lower) (bounds .upper) → r ≡ cond (judged R·Reading (now (reading .entry)) judgement (now (aggregate .entry)) (bounds .lower) (bounds .upper)) (clipped 32 (2 ^ number)) 0) ⌝ }
 {
     if judged(reading, judgement, aggregate, bounds) {
         number_alone(number)
@@ -69,7 +69,7 @@ fn passing<R: Reading>(
     bounds: Bounds,
 ) -> u32
     requires { ⌜ length (now aggregates) ≤ 32 ⌝ }
-    ensures { λ r. ⌜ (Within (bounds .lower) (bounds .upper) → r ≡ passing (λ a. judged (R·Reading .sure (now (reading .entry))) (R·Reading .may (now (reading .entry))) judgement a (bounds .lower) (bounds .upper)) (now (aggregates .entry))) ⌝ }
+    ensures { λ r. ⌜ (Within (bounds .lower) (bounds .upper) → r ≡ passing (λ a. judged R·Reading (now (reading .entry)) judgement a (bounds .lower) (bounds .upper)) (now (aggregates .entry))) ⌝ }
 {
     let mut numbers: u32 = 0;
     for (number, aggregate) in aggregates.iter().enumerate() {
@@ -95,7 +95,7 @@ impl<R: Reading> RuleProgram<R> {
 
     // The heads of the rules that fire whatever lies between the bounds. A crossed question is answered freely.
     pub fn sure_heads(&self, bounds: Bounds) -> Interpretation
-        ensures is { λ r. ⌜ (Proper (below-width (now (self .entry) .table) bounds) → r ≡ program-meaning (R·Reading .sure (now (self .entry) .reading)) (R·Reading .may (now (self .entry) .reading)) (now (self .entry) .table) .sure (bounds .lower) (bounds .upper)) ⌝ }
+        ensures is { λ r. ⌜ (Proper (below-width (now (self .entry) .table) bounds) → r ≡ program-meaning R·Reading (now (self .entry)) .sure (bounds .lower) (bounds .upper)) ⌝ }
         ensures follow { λ r. ⌜ (Proper (below-width (now (self .entry) .table) bounds) → SurelyFollow (R·Reading .sure (now (self .entry) .reading)) (now (self .entry) .table) (below-width (now (self .entry) .table) bounds) r) ⌝ }
     {
         let inside = self.table.below(bounds);
@@ -110,7 +110,7 @@ impl<R: Reading> RuleProgram<R> {
 
     // The heads of the rules that may fire on something that lies between the bounds. A crossed question is answered freely.
     pub fn may_heads(&self, bounds: Bounds) -> Interpretation
-        ensures is { λ r. ⌜ (Proper (below-width (now (self .entry) .table) bounds) → r ≡ program-meaning (R·Reading .sure (now (self .entry) .reading)) (R·Reading .may (now (self .entry) .reading)) (now (self .entry) .table) .may (bounds .lower) (bounds .upper)) ⌝ }
+        ensures is { λ r. ⌜ (Proper (below-width (now (self .entry) .table) bounds) → r ≡ program-meaning R·Reading (now (self .entry)) .may (bounds .lower) (bounds .upper)) ⌝ }
         ensures follow { λ r. ⌜ (Proper (below-width (now (self .entry) .table) bounds) → PerhapsFollow (R·Reading .may (now (self .entry) .reading)) (now (self .entry) .table) (below-width (now (self .entry) .table) bounds) r) ⌝ }
     {
         let inside = self.table.below(bounds);
@@ -125,11 +125,11 @@ impl<R: Reading> RuleProgram<R> {
 }
 
 pub impl<R: Reading> Approximator for RuleProgram<R> as RuleApproximator {
-    ghost width = { λ p. program-meaning (R·Reading .sure (p .reading)) (R·Reading .may (p .reading)) (p .table) .width };
+    ghost width = { λ p. program-meaning R·Reading p .width };
 
-    ghost sure = { λ p. program-meaning (R·Reading .sure (p .reading)) (R·Reading .may (p .reading)) (p .table) .sure };
+    ghost sure = { λ p. program-meaning R·Reading p .sure };
 
-    ghost may = { λ p. program-meaning (R·Reading .sure (p .reading)) (R·Reading .may (p .reading)) (p .table) .may };
+    ghost may = { λ p. program-meaning R·Reading p .may };
 
     fn width(&self) -> u8 {
         self.table.atom_count()

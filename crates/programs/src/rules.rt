@@ -4,6 +4,7 @@ ghost use Prim.Native.Nat.{_≤_};
 ghost use lib.ListN.{length};
 ghost use Rattle.tables.specs.Rows.{in-use};
 ghost use Rattle.programs.specs.Deriving.{derived};
+ghost use Rattle.programs.specs.Normal.{NormalSheet, NormalRules};
 ghost use Rattle.programs.specs.Programs.{below-width};
 ghost use Rattle.programs.specs.Tables.{clauses-from, rule-table, clauses-of, aggregates-of, width-of};
 use super::clause::Clause;
@@ -36,7 +37,8 @@ fn clauses_from(rules: Rows<Rule, 128>) -> Rows<Clause, 128>
 impl RuleTable {
     // The rules and the aggregates of the record. Its width is taken as 1 if it is less, and as 64 if it is more.
     pub fn of(table: &Table) -> RuleTable
-        ensures { λ r. ⌜ r ≡ rule-table (now (table .entry)) ⌝ }
+        ensures is { λ r. ⌜ r ≡ rule-table (now (table .entry)) ⌝ }
+        ensures normal { λ r. ⌜ (NormalSheet (now (table .entry)) → NormalRules r) ⌝ }
     {
         RuleTable {
             width: table.width,

@@ -12,5 +12,5 @@ loop-number-again g c =
     let r = c .args .reading .now in
     let b = c .args .bounds in
     λ p.
-    passing-more (λ a. judged (g .R·Reading .sure r) (g .R·Reading .may r) (c .args .judgement) a (b .lower) (b .upper)) (c .args .aggregates .now) (c .loop-number .number) _
+    passing-more (λ a. judged (g .R·Reading) r (c .args .judgement) a (b .lower) (b .upper)) (c .args .aggregates .now) (c .loop-number .number) _
     (c .loop-number-test .taken) (c .pre) (c .judged-share-numbers .ensures p) (c .loop-number .inv p)

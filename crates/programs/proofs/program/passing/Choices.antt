@@ -7,4 +7,4 @@ use Rattle.programs.proofs.program.passing.Given as given
 abbrev pub Inv-loop-number : given.InvT-loop-number
 Inv-loop-number g l =
     Within (l .bounds .lower) (l .bounds .upper) →
-    l .numbers ≡ collected (passes (λ a. judged (g .R·Reading .sure (l .reading)) (g .R·Reading .may (l .reading)) (l .judgement) a (l .bounds .lower) (l .bounds .upper)) (l .aggregates)) (l .number)
+    l .numbers ≡ collected (passes (λ a. judged (g .R·Reading) (l .reading) (l .judgement) a (l .bounds .lower) (l .bounds .upper)) (l .aggregates)) (l .number)

@@ -1,14 +1,11 @@
-use mathlib.Core.Path.{sym, _∙_}
 use Rattle.approx.proofs.Laws.{Lawful}
 use Rattle.programs.specs.Programs.{program-meaning}
 use Rattle.programs.specs.declared.program.RuleProgram.{RuleProgram}
-use Rattle.programs.proofs.Obeying.{Honest, program-lawful}
+use Rattle.programs.proofs.Obeying.{program-lawful}
 use Rattle.programs.proofs.program.RuleApproximator.the-impl.Needs as need
 
-laws : (g : need.Over) (p : RuleProgram (g .R .Denot)) → Lawful (program-meaning (g .R·Reading .sure (p .reading)) (g .R·Reading .may (p .reading)) (p .table))
-laws g p =
-    let met = g .R·Reading·met in
-    program-lawful (record { truth = λ a z. met .truth (p .reading) a z .0 ∙ sym (met .truth (p .reading) a z .1); precise = met .precise (p .reading) }) (p .table)
+laws : (g : need.Over) (p : RuleProgram (g .R .Denot)) → Lawful (program-meaning (g .R·Reading) p)
+laws g p = let met = g .R·Reading·met in program-lawful (g .R·Reading) (met .truth) (met .precise) p
 
 pub exact-law : need.exact-law
 exact-law g p z h = laws g p .exact z
