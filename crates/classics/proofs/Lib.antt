@@ -1,0 +1,4 @@
+mod Arguing
+mod Applying
+mod Reducing
+mod Founding

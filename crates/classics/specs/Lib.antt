@@ -1,0 +1,3 @@
+pub mod Extensions
+pub mod StableModels
+pub mod WellFounded

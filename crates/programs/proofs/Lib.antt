@@ -1,0 +1,4 @@
+mod Gathering
+pub mod Following
+pub mod Obeying
+mod Naming

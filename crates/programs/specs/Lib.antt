@@ -1,0 +1,5 @@
+pub mod Clauses
+pub mod Tables
+pub mod Deriving
+pub mod Programs
+pub mod Normal
