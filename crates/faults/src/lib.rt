@@ -55,7 +55,11 @@ pub enum SheetFault {
 pub enum BenchFault {
     Sheet(SheetFault),
     Crossed,
+    TooManyOpen(u32),
     NoSuchAtom(u8),
+    Pegged(u8),
+    NotInForce(u8),
+    PegsInForce(u32),
 }
 
 pub impl From<TextFault> for SheetFault as SheetFromText {
@@ -146,7 +150,11 @@ impl BenchFault {
         let (number, spot) = match self {
             BenchFault::Sheet(fault) => return fault.told(),
             BenchFault::Crossed => (14, Spot::NOWHERE),
+            BenchFault::TooManyOpen(count) => (15, Spot::new(0, count)),
             BenchFault::NoSuchAtom(atom) => (16, Spot::new(0, atom as u32)),
+            BenchFault::Pegged(atom) => (17, Spot::new(0, atom as u32)),
+            BenchFault::NotInForce(atom) => (18, Spot::new(0, atom as u32)),
+            BenchFault::PegsInForce(count) => (19, Spot::new(0, count)),
         };
         Told {
             number,
