@@ -1,1 +1,4 @@
 mod Turning
+mod Agreement
+mod Faulting
+mod Tracking

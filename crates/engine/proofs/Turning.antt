@@ -39,21 +39,21 @@ put-in a i k l =
     at-atom a (bitOr a (alone i)) i k true
     (λ q. has-test (bitOr a (alone i)) k (has-or-r a (alone i) k (subst (λ (j : ℕ). Has (alone i) j) (sym q) (subst (λ (s : ℕ). Has s i) (sym e) (pow-has i)))))
     (λ n. same-test (bitOr a (alone i)) a k
-        (same-digit (bitOr a (alone i)) a k
-        (λ h. elim (has-or-cases a (alone i) k h) [ inl p ↦ p | inr p ↦ absurd (n (sym (pow-only i k (subst (λ (s : ℕ). Has s k) e p)))) ])
-        (λ h. has-or-l a (alone i) k h)))
+    (same-digit (bitOr a (alone i)) a k
+    (λ h. elim (has-or-cases a (alone i) k h) [ inl p ↦ p | inr p ↦ absurd (n (sym (pow-only i k (subst (λ (s : ℕ). Has s k) e p)))) ])
+    (λ h. has-or-l a (alone i) k h)))
 
 take-out : (a i k : ℕ) → a < 2 ^ 64 → has (lacking a (alone i)) k ≡ cond (eqb k i) false (has a k)
 take-out a i k l =
     let m : alone i < 2 ^ 64 = mod-lt (2 ^ i) (pow-pos 64) in
     at-atom a (lacking a (alone i)) i k false
     (λ q. lacks-test (lacking a (alone i)) k (λ h.
-        let up : k < 64 = below-wide 64 a k l (lacking-has a (alone i) l m k h) in
-        lacks-not (alone i) k (lacking-lacks a (alone i) l m k h) (mod-digit (2 ^ i) 64 k up ∙ subst (λ (j : ℕ). Has (2 ^ i) j) (sym q) (pow-has i))))
+    let up : k < 64 = below-wide 64 a k l (lacking-has a (alone i) l m k h) in
+    lacks-not (alone i) k (lacking-lacks a (alone i) l m k h) (mod-digit (2 ^ i) 64 k up ∙ subst (λ (j : ℕ). Has (2 ^ i) j) (sym q) (pow-has i))))
     (λ n. same-test (lacking a (alone i)) a k
-        (same-digit (lacking a (alone i)) a k
-        (lacking-has a (alone i) l m k)
-        (λ h. lacking-in a (alone i) l m k h (lacks-from (alone i) k (λ o. n (sym (pow-only i k (sym (mod-digit (2 ^ i) 64 k (below-wide 64 a k l h)) ∙ o))))))))
+    (same-digit (lacking a (alone i)) a k
+    (lacking-has a (alone i) l m k)
+    (λ h. lacking-in a (alone i) l m k h (lacks-from (alone i) k (λ o. n (sym (pow-only i k (sym (mod-digit (2 ^ i) 64 k (below-wide 64 a k l h)) ∙ o))))))))
 
 pub turned-on : (p : Pegs) (i : ℕ) (s : Sense) → i < 64 → Turned (standing p) i s true (standing (with-peg p i s))
 turned-on p i On l j On = put-in (p .on) i j l

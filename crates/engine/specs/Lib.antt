@@ -1,2 +1,5 @@
 pub mod Boards
 pub mod Standing
+pub mod Rules
+pub mod Histories
+pub mod Listings
