@@ -2,3 +2,5 @@ mod Turning
 mod Agreement
 mod Faulting
 mod Tracking
+mod Acting
+mod Playing

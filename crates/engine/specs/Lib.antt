@@ -3,3 +3,4 @@ pub mod Standing
 pub mod Rules
 pub mod Histories
 pub mod Listings
+pub mod Scripts

@@ -14,4 +14,8 @@ pub use listing::Unclosed;
 pub use listing::Unlisted;
 pub use listing::Unpulled;
 pub use pegs::Sense;
+pub use runs::Command;
 pub use runs::Event;
+pub use runs::Outcome;
+pub use runs::play;
+pub use runs::run;
