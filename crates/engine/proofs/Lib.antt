@@ -1,0 +1,6 @@
+mod Turning
+mod Agreement
+mod Faulting
+mod Tracking
+mod Acting
+mod Playing

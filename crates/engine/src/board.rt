@@ -23,8 +23,8 @@ pub struct Board<A> {
 // A board with its settled bounds.
 #[derive(Drop)]
 pub struct Settled<A> {
-    pile: A,
-    bounds: Bounds,
+    pub(crate) pile: A,
+    pub(crate) bounds: Bounds,
 }
 
 // A board that could not be settled, and why: the board is as it was.

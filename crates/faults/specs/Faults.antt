@@ -39,12 +39,16 @@ sheet-told (sheet.Misplaced spot) = telling 9 layer.Sheet spot
 sheet-told (sheet.BadNumber spot) = telling 10 layer.Sheet spot
 sheet-told (sheet.SecondLine spot) = telling 11 layer.Sheet spot
 
--- Faults 13, 14 and 16 are found by the bench; a berth's width and an atom that is not there are told as a column; a fault of the sheet stays what it is.
+-- Faults 13 to 19 are found by the bench; a berth's width, an atom, or how many atoms or pegs there are, is told as a column; a fault of the sheet stays what it is.
 abbrev pub bench-told : BenchFault → Told
 bench-told (bench.Sheet fault) = sheet-told fault
 bench-told (bench.BerthTooWide width) = telling 13 layer.Bench (at 0 width)
 bench-told bench.Crossed = telling 14 layer.Bench (at 0 0)
+bench-told (bench.TooManyOpen count) = telling 15 layer.Bench (at 0 count)
 bench-told (bench.NoSuchAtom atom) = telling 16 layer.Bench (at 0 atom)
+bench-told (bench.Pegged atom) = telling 17 layer.Bench (at 0 atom)
+bench-told (bench.NotInForce atom) = telling 18 layer.Bench (at 0 atom)
+bench-told (bench.PegsInForce count) = telling 19 layer.Bench (at 0 count)
 
 -- Each layer's word, as its bytes.
 abbrev pub layer-name : Layer → List ℕ

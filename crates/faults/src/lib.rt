@@ -56,7 +56,11 @@ pub enum BenchFault {
     Sheet(SheetFault),
     BerthTooWide(u32),
     Crossed,
+    TooManyOpen(u32),
     NoSuchAtom(u8),
+    Pegged(u8),
+    NotInForce(u8),
+    PegsInForce(u32),
 }
 
 pub impl From<TextFault> for SheetFault as SheetFromText {
@@ -148,7 +152,11 @@ impl BenchFault {
             BenchFault::Sheet(fault) => return fault.told(),
             BenchFault::BerthTooWide(width) => (13, Spot::new(0, width)),
             BenchFault::Crossed => (14, Spot::NOWHERE),
+            BenchFault::TooManyOpen(count) => (15, Spot::new(0, count)),
             BenchFault::NoSuchAtom(atom) => (16, Spot::new(0, atom as u32)),
+            BenchFault::Pegged(atom) => (17, Spot::new(0, atom as u32)),
+            BenchFault::NotInForce(atom) => (18, Spot::new(0, atom as u32)),
+            BenchFault::PegsInForce(count) => (19, Spot::new(0, count)),
         };
         Told {
             number,

@@ -1,0 +1,55 @@
+use mathlib.Core.Path.{_≡_, refl, sym, ap, ap₂, _∙_}
+use mathlib.Core.Bool.{true, false}
+use Prim.Native.Nat.{_<_}
+use native.Mathlib.Omega.{arith}
+use Rattle.std.specs.declared.option.Option.the-variants.{None, Some}
+use Rattle.approx.specs.Meanings.{meaning}
+use Rattle.approx.proofs.Laws.{Lawful, lawful}
+use Rattle.faults.specs.declared.BenchFault.the-variants as fault
+use Rattle.engine.specs.Standing.{standing, with-peg}
+use Rattle.engine.specs.Rules.{peg-fault}
+use Rattle.engine.specs.Listings.{begun, peg-gives, peg-leaves}
+use Rattle.engine.proofs.Faulting.{no-such-atom, peg-found}
+use Rattle.engine.proofs.Tracking.{peg-refused, peg-granted}
+use Rattle.engine.proofs.listing.Listing.peg.Given as given
+use Rattle.engine.proofs.listing.Listing.peg.Needs as need
+
+laws : (g : given.Over) (a : g .A .Denot) → Lawful (meaning (g .A·Approximator) a)
+laws g a = let met = g .A·Approximator·met in lawful (g .A·Approximator) (met .wide) (met .exact) (met .precise) (met .below) (met .ignores) a
+
+pub returns-then-atom-width : need.returns-then-atom-width
+returns-then-atom-width g c =
+    let x = c .args .self .now in
+    let i = c .args .atom in
+    let s = c .args .sense in
+    let e = no-such-atom (g .A·Approximator .width (x .pile)) (standing (x .pegs)) i (c .width .ensures) (c .if-atom-width .taken) in
+    record {
+      gives = ap (λ f. peg-gives f i s) (sym e);
+      leaves = ap (λ f. peg-leaves f x i s) (sym e);
+      law = λ h ran. peg-refused (g .A·Approximator) x (laws g (x .pile)) h ran i s (fault.NoSuchAtom i) e;
+    }
+
+pub returns-then-holds : need.returns-then-holds
+returns-then-holds g c =
+    let x = c .args .self .now in
+    let i = c .args .atom in
+    let s = c .args .sense in
+    let e = peg-found (g .A·Approximator .width (x .pile)) (standing (x .pegs)) i (c .holds .result) true (c .width .ensures) (c .if-atom-width .left) (c .holds .ensures) (c .if-holds .taken) in
+    record {
+      gives = ap (λ f. peg-gives f i s) (sym e);
+      leaves = ap (λ f. peg-leaves f x i s) (sym e);
+      law = λ h ran. peg-refused (g .A·Approximator) x (laws g (x .pile)) h ran i s (fault.Pegged i) e;
+    }
+
+pub returns : need.returns
+returns g c =
+    let x = c .args .self .now in
+    let i = c .args .atom in
+    let s = c .args .sense in
+    let e = peg-found (g .A·Approximator .width (x .pile)) (standing (x .pegs)) i (c .holds .result) false (c .width .ensures) (c .if-atom-width .left) (c .holds .ensures) (c .if-holds .left) in
+    let small : i < 64 = omega (arith, c .if-atom-width .left, c .width .ensures, g .A·Approximator·met .wide (x .pile) .1) in
+    record {
+      gives = ap (λ f. peg-gives f i s) (sym e);
+      leaves = ap (begun x) (c .with-self .ensures .is) ∙ ap (λ f. peg-leaves f x i s) (sym e);
+      law = λ h ran. peg-granted (g .A·Approximator) x (laws g (x .pile)) h ran i s (c .with-self .result) e (c .with-self .ensures .holds small);
+    }
