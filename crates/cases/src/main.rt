@@ -1,12 +1,9 @@
-// Reads the sheets of the corpus one after another and prints what reading each says: its refusal, or `accepted`. The
-// stored output was written by the other implementation, in oracle/. A case is its length in decimal, a newline, and so
+// Answers the sheets of the corpus one after another, as the bench does. The stored output was written by the other
+// implementation, in oracle/. A case is its length in decimal, a newline, and so
 // many bytes.
-use faults::BenchFault;
-use faults::BenchFromSheet;
-use sheet::read;
+use report::print_answer;
 use std::fs;
 use std::io;
-use tables::table::Table;
 
 // No more cases than this are read.
 const MOST: u32 = 1000000;
@@ -38,26 +35,6 @@ fn next_case(data: &[u8]) -> Option<(&[u8], &[u8])> {
     Some((&data[from..end], &data[end..]))
 }
 
-fn verdict(text: &[u8]) -> Result<(), BenchFault> {
-    let mut table = Table::fresh();
-    read(&mut table, text)?;
-    Ok(())
-}
-
-fn print_verdict(rt: &LibcRuntime, text: &[u8]) -> io::Result<()> {
-    match verdict(text) {
-        Ok(()) => println!(rt, "accepted"),
-        Err(fault) => {
-            let number = fault.number();
-            let layer = fault.layer().name();
-            let spot = fault.spot();
-            let line = spot.line;
-            let column = spot.column;
-            println!(rt, "refused {number} {layer} {line} {column}")
-        }
-    }
-}
-
 fn main(rt: LibcRuntime) -> io::Result<()> {
     let data = fs::read(&rt, "cases.bin")?;
     let mut rest = data.as_slice();
@@ -66,7 +43,7 @@ fn main(rt: LibcRuntime) -> io::Result<()> {
             break;
         };
         println!(rt, "case {number}")?;
-        print_verdict(&rt, sheet)?;
+        print_answer(&rt, sheet)?;
         rest = after;
     }
     Ok(())
