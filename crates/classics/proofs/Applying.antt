@@ -1,13 +1,11 @@
 -- Normal rules: what a question of the table gives, in terms of its rules alone.
-use mathlib.Core.Path.{_≡_, sym, ap₂, _∙_, subst}
-use mathlib.Core.Bool.{Bool}
+use mathlib.Core.Path.{_≡_, refl, sym, ap₂, subst}
 use mathlib.Core.List.{List}
-use Prim.Native.Nat.{ℕ, _%_, _<_, _^_}
+use Prim.Native.Nat.{ℕ, _<_, _^_}
 use native.Mathlib.Nat.{mod-eq-of-lt}
 use native.Mathlib.Omega.{arith}
-use Rattle.atoms.specs.Sets.{Has, Within, Apart, clipped}
+use Rattle.atoms.specs.Sets.{Has, Within, Apart}
 use Rattle.atoms.proofs.Inclusion.{within-trans, within-eq, zero-within, within-le}
-use Rattle.approx.specs.Meanings.{Meaning}
 use Rattle.programs.specs.Clauses.{Among}
 use Rattle.programs.specs.Deriving.{derived, passing}
 use Rattle.programs.specs.Normal.{NormalRules}
@@ -67,4 +65,4 @@ module _ (t : RuleTable) (normal : NormalRules t) where
 
 -- a rule applies to its own head
 pub own : {cs : List Clause} {h p : ℕ} (c : Clause) → Among c cs → Within (c .needed) h → Apart (c .barred) p → Applies cs h p (c .head)
-own c m a b = record { rule = c; among = m; head = mathlib.Core.Path.refl; needed = a; barred = b }
+own c m a b = record { rule = c; among = m; head = refl; needed = a; barred = b }

@@ -1,13 +1,13 @@
 -- Stable interpretations of a framework are its stable extensions.
 use mathlib.Core.Path.{_≡_, sym, ap, _∙_, subst}
-use mathlib.Core.Logic.{_⊎_, inl, inr}
+use mathlib.Core.Logic.{inl, inr}
 use Prim.Native.Nat.{ℕ, _%_, _<_, _^_}
 use native.Mathlib.Nat.{mod-lt, mod-eq-of-lt}
 use native.Mathlib.Omega.{arith}
 use lib.Bits.{bitAnd}
 use lib.Pow.{pow-pos}
 use Rattle.std.proofs.shelf.Tests.{cases-eq}
-use Rattle.atoms.specs.Sets.{Has, Within, Apart, clipped}
+use Rattle.atoms.specs.Sets.{Has, Within}
 use Rattle.atoms.proofs.Digits.{has-or-lacks, lacks-not, mod-digit}
 use Rattle.atoms.proofs.Inclusion.{within-trans, within-eq, within-antisym, within-le}
 use Rattle.atoms.proofs.Lacking.{apart-from, common-atom}

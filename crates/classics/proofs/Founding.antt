@@ -1,6 +1,5 @@
 -- The settled bounds of normal rules are their well-founded model.
-use mathlib.Core.Path.{_≡_, sym, ap, _∙_, subst}
-use mathlib.Core.List.{List}
+use mathlib.Core.Path.{_≡_, sym, subst}
 use mathlib.Core.Logic.{_⊎_, inl, inr}
 use Prim.Native.Nat.{ℕ, _-_, _<_, _^_}
 use native.Mathlib.Omega.{arith}
@@ -9,7 +8,7 @@ use lib.Pow.{pow-pos}
 use Rattle.std.proofs.shelf.Tests.{cases-eq}
 use Rattle.atoms.specs.Sets.{digit, Has, Within, Apart, all-below}
 use Rattle.atoms.specs.declared.bounds.Bounds.{Bounds}
-use Rattle.atoms.proofs.Digits.{digit-of-zero, has-and, has-or-lacks, lacks-not, lacks-from, not-has, not-lacks}
+use Rattle.atoms.proofs.Digits.{digit-of-zero, has-and, lacks-not, lacks-from, not-has, not-lacks}
 use Rattle.atoms.proofs.Inclusion.{within-refl, within-trans, within-eq, within-antisym, zero-within, and-within-l, within-test}
 use Rattle.atoms.proofs.Lacking.{apart-from, below-wide, common-atom}
 use Rattle.atoms.proofs.Ordering.{within-first}
@@ -18,14 +17,12 @@ use Rattle.approx.specs.Settling.{NextBounds, Rounds, begins, goes-on, Settles}
 use Rattle.approx.proofs.Laws.{Lawful}
 use Rattle.approx.proofs.Climbing as climbing
 use Rattle.approx.proofs.Rounding as rounding
-use Rattle.programs.specs.Clauses.{Among}
 use Rattle.programs.specs.Normal.{NormalRules}
 use Rattle.programs.specs.Programs.{Verdict, table-meaning}
 use Rattle.programs.specs.Tables.{width-of, clauses-of}
-use Rattle.programs.specs.declared.clause.Clause.{Clause}
 use Rattle.programs.specs.declared.rules.RuleTable.{RuleTable}
 use Rattle.programs.proofs.Following.{derived-below}
-use Rattle.classics.specs.WellFounded.{Meets, Unfounded, TrueBy, Fixpoint, WellFounded, TheWellFounded}
+use Rattle.classics.specs.WellFounded.{Meets, Unfounded, Fixpoint, WellFounded, TheWellFounded}
 use Rattle.classics.proofs.Applying.{Applies, own, below-of, sure-in, sure-from, may-in, may-from}
 
 -- ---- sets can be searched

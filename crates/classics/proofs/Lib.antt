@@ -1,4 +1,4 @@
 mod Arguing
 mod Applying
-mod Reducing
+pub mod Reducing
 mod Founding

@@ -2,17 +2,17 @@
 use mathlib.Core.Path.{_≡_, refl, sym, ap, _∙_, subst}
 use mathlib.Core.Bool.{Bool, true, false, cond}
 use mathlib.Core.List.{List, [], _∷_}
-use mathlib.Core.Logic.{_⊎_, inl, inr}
-use Prim.Native.Nat.{ℕ, _%_, _<_, _^_}
+use mathlib.Core.Logic.{inl, inr}
+use Prim.Native.Nat.{ℕ, _<_, _^_}
 use native.Mathlib.Nat.{mod-lt}
 use native.Mathlib.Omega.{arith}
 use lib.Bits.{bitAnd}
 use lib.Dec.{eqb}
 use lib.Pow.{pow-pos}
-use Rattle.std.proofs.shelf.Tests.{cases-bool, eqb-true, eqb-false, eq-eqb}
+use Rattle.std.proofs.shelf.Tests.{eqb-true, eq-eqb}
 use Rattle.atoms.specs.Sets.{Has, Within, Apart, clipped}
 use Rattle.atoms.proofs.Digits.{has-and, mod-digit}
-use Rattle.atoms.proofs.Inclusion.{within-refl, within-trans, within-eq, within-antisym, and-within-l, and-within-r, within-le}
+use Rattle.atoms.proofs.Inclusion.{within-trans, within-eq, within-antisym, and-within-l, and-within-r, within-le}
 use Rattle.atoms.proofs.Lacking.{apart-from, apart-none, below-wide}
 use Rattle.approx.specs.Stability.{Stable}
 use Rattle.programs.specs.Clauses.{Among}

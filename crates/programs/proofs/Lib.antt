@@ -1,4 +1,4 @@
 mod Gathering
 pub mod Following
 pub mod Obeying
-mod Naming
+pub mod Naming

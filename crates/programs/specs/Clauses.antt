@@ -65,3 +65,10 @@ pub record Says (r : Rule) (c : Clause) : Type 0 where
   pub needed : (i : ℕ) → Same (Has (c .needed) i) ((i < 64) × Among (Atom i) (items-of r))
   pub barred : (i : ℕ) → Same (Has (c .barred) i) ((i < 64) × Among (NotAtom i) (items-of r))
   pub aggregates : (n : ℕ) → Same (Has (c .aggregates) n) ((n < 32) × Among (Aggregate n) (items-of r))
+
+-- the clauses say, one by one, what the rules say
+abbrev pub AllSay : List Rule → List Clause → Type 0
+AllSay [] [] = Unit {0}
+AllSay [] (c ∷ cs) = ⊥
+AllSay (r ∷ rs) [] = ⊥
+AllSay (r ∷ rs) (c ∷ cs) = Says r c × AllSay rs cs

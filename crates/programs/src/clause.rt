@@ -26,6 +26,7 @@ pub(super) fn number_alone(number: usize) -> u32
     if number < 32 { 1 << number } else { 0 }
 }
 
+// The atom of a plain item.
 fn plain(item: Item) -> Interpretation
     ensures { λ r. ⌜ r ≡ plain item ⌝ }
 {
@@ -35,6 +36,7 @@ fn plain(item: Item) -> Interpretation
     }
 }
 
+// The atom of a negated item.
 fn negated(item: Item) -> Interpretation
     ensures { λ r. ⌜ r ≡ negated item ⌝ }
 {
@@ -44,6 +46,7 @@ fn negated(item: Item) -> Interpretation
     }
 }
 
+// The number of an aggregate's item.
 fn numbered(item: Item) -> u32
     ensures { λ r. ⌜ r ≡ numbered item ⌝ }
 {

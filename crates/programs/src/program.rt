@@ -1,11 +1,12 @@
 // A rule program: a rule table whose aggregates a reading judges.
 ghost use mathlib.Core.Path.{_≡_};
-ghost use mathlib.Core.Bool.{Bool, cond};
-ghost use Prim.Native.Nat.{ℕ, _≤_, _<_, _^_};
+ghost use mathlib.Core.Bool.{cond};
+ghost use Prim.Native.Nat.{_≤_, _^_};
 ghost use lib.ListN.{length};
 ghost use Rattle.atoms.specs.Sets.{Within, clipped};
 ghost use Rattle.atoms.specs.Bounded.{Proper};
 ghost use Rattle.programs.specs.Deriving.{passing};
+ghost use Rattle.programs.specs.Normal.{NormalSheet, NormalRules};
 ghost use Rattle.programs.specs.Programs.{judged, below-width, SurelyFollow, PerhapsFollow, program-meaning};
 ghost use Rattle.programs.specs.Tables.{rule-table};
 use super::clause::number_alone;
@@ -30,6 +31,7 @@ pub enum Judgement {
     Perhaps,
 }
 
+// Whether the reading says so of the aggregate.
 fn judged<R: Reading>(
     reading: &R,
     judgement: Judgement,
@@ -81,14 +83,17 @@ fn passing<R: Reading>(
 impl<R: Reading> RuleProgram<R> {
     // The program of a rule table.
     pub fn new(table: RuleTable, reading: R) -> RuleProgram<R>
-        ensures { λ r. ⌜ r .table ≡ table ⌝ ∗ ⌜ r .reading ≡ reading ⌝ }
+        ensures table { λ r. ⌜ r .table ≡ table ⌝ }
+        ensures reading { λ r. ⌜ r .reading ≡ reading ⌝ }
     {
         RuleProgram { table, reading }
     }
 
     // The program of a sheet's record.
     pub fn of(table: &Table, reading: R) -> RuleProgram<R>
-        ensures { λ r. ⌜ r .table ≡ rule-table (now (table .entry)) ⌝ ∗ ⌜ r .reading ≡ reading ⌝ }
+        ensures table { λ r. ⌜ r .table ≡ rule-table (now (table .entry)) ⌝ }
+        ensures reading { λ r. ⌜ r .reading ≡ reading ⌝ }
+        ensures normal { λ r. ⌜ (NormalSheet (now (table .entry)) → NormalRules (r .table)) ⌝ }
     {
         RuleProgram::new(RuleTable::of(table), reading)
     }

@@ -3,10 +3,11 @@ ghost use mathlib.Core.Path.{_≡_};
 ghost use Prim.Native.Nat.{_≤_};
 ghost use lib.ListN.{length};
 ghost use Rattle.tables.specs.Rows.{in-use};
+ghost use Rattle.programs.specs.Clauses.{AllSay};
 ghost use Rattle.programs.specs.Deriving.{derived};
 ghost use Rattle.programs.specs.Normal.{NormalSheet, NormalRules};
 ghost use Rattle.programs.specs.Programs.{below-width};
-ghost use Rattle.programs.specs.Tables.{clauses-from, rule-table, clauses-of, aggregates-of, width-of};
+ghost use Rattle.programs.specs.Tables.{clauses-from, rule-table, rules-of, clauses-of, aggregates-of, width-of};
 use super::clause::Clause;
 use atoms::Bounds;
 use atoms::Interpretation;
@@ -38,6 +39,7 @@ impl RuleTable {
     // The rules and the aggregates of the record. Its width is taken as 1 if it is less, and as 64 if it is more.
     pub fn of(table: &Table) -> RuleTable
         ensures is { λ r. ⌜ r ≡ rule-table (now (table .entry)) ⌝ }
+        ensures says { λ r. ⌜ AllSay (rules-of (now (table .entry))) (clauses-of r) ⌝ }
         ensures normal { λ r. ⌜ (NormalSheet (now (table .entry)) → NormalRules r) ⌝ }
     {
         RuleTable {

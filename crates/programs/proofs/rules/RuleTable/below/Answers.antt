@@ -3,7 +3,6 @@ use Prim.Native.Nat.{ℕ, min}
 use native.Mathlib.Omega.{arith}
 use lib.Bits.{bitAnd, and-mask}
 use Rattle.atoms.specs.Sets.{all-below}
-use Rattle.atoms.specs.declared.bounds.Bounds.{Bounds}
 use Rattle.programs.specs.Tables.{width-of}
 use Rattle.programs.proofs.rules.RuleTable.below.Needs as need
 
