@@ -73,14 +73,17 @@ pull-gives None t = Ok tt
 pull-gives (Some f) t = Err (record { fault = f; token = t })
 
 -- ---- the event that a call is, by what it gave
+-- a next hands an interpretation out, or says 'no more'
 abbrev pub next-event : Option ℕ → Event
 next-event None = event.NoMore
 next-event (Some z) = event.Handed z
 
+-- a peg of an atom and a sense is granted, or refused with a fault
 abbrev pub peg-event : ℕ → Sense → Result Token BenchFault → Event
 peg-event i s (Ok t) = event.Pegged i s
 peg-event i s (Err f) = event.PegRefused i s f
 
+-- a pull with a token is granted, or refused with a fault
 abbrev pub pull-event : Token → Result (Unit {0}) Unpulled → Event
 pull-event t (Ok u) = event.Pulled (t .atom) (t .sense)
 pull-event t (Err e) = event.PullRefused (t .atom) (t .sense) (e .fault)

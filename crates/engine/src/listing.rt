@@ -108,6 +108,14 @@ impl<A: Approximator> Listing<A> {
         pegged(self.bounds, self.pegs.on, self.pegs.off)
     }
 
+    // Nothing is handed out yet, under these pegs.
+    fn begin_anew(&mut self, pegs: Pegs)
+        ensures { λ _. ⌜ now (self .exit) ≡ begun (now (self .entry)) pegs ⌝ }
+    {
+        self.pegs = pegs;
+        self.last = None;
+    }
+
     // The following stable interpretation that agrees with the pegs, or no more.
     pub fn next(&mut self) -> Option<Interpretation>
         ensures gives { λ r. ⌜ (Listable A·Approximator (now (self .entry)) → Sought (Wanted (meaning A·Approximator (now (self .entry) .pile)) (now (self .entry) .pegs .on) (now (self .entry) .pegs .off)) (now (self .entry) .last) r) ⌝ }
@@ -136,7 +144,7 @@ impl<A: Approximator> Listing<A> {
         ensures leaves { λ _. ⌜ now (self .exit) ≡ begun (now (self .entry)) (now (self .entry) .pegs) ⌝ }
         ensures law { λ _. ⌜ ((h : History) → Ran A·Approximator h (now (self .entry)) → Ran A·Approximator (Rewound ∷ h) (now (self .exit))) ⌝ }
     {
-        self.last = None;
+        self.begin_anew(self.pegs);
     }
 
     // Pegs the atom and begins anew; or says why not.
@@ -151,8 +159,7 @@ impl<A: Approximator> Listing<A> {
         if self.pegs.holds(atom) {
             return Err(BenchFault::Pegged(atom));
         }
-        self.pegs = self.pegs.with(atom, sense);
-        self.last = None;
+        self.begin_anew(self.pegs.with(atom, sense));
         Ok(Token { atom, sense })
     }
 
@@ -167,8 +174,7 @@ impl<A: Approximator> Listing<A> {
             return Err(Unpulled { fault, token });
         }
         let Token { atom, sense } = token;
-        self.pegs = self.pegs.without(atom, sense);
-        self.last = None;
+        self.begin_anew(self.pegs.without(atom, sense));
         Ok(())
     }
 

@@ -1,10 +1,12 @@
-use mathlib.Core.Path.{_≡_, refl, sym, ap, _∙_}
+use mathlib.Core.Path.{sym, ap, _∙_, subst}
 use mathlib.Core.Bool.{true, false}
+use mathlib.Core.List.{_∷_}
 use Rattle.approx.specs.Meanings.{meaning}
 use Rattle.approx.proofs.Laws.{Lawful, lawful}
 use Rattle.faults.specs.declared.BenchFault.the-variants as fault
 use Rattle.engine.specs.Standing.{standing}
-use Rattle.engine.specs.Listings.{begun, pull-gives, pull-leaves}
+use Rattle.engine.specs.Listings.{begun, pull-gives, pull-leaves, Ran}
+use Rattle.engine.specs.declared.runs.Event.the-variants.{Pulled}
 use Rattle.engine.proofs.Faulting.{pull-found}
 use Rattle.engine.proofs.Tracking.{pull-refused, pull-granted}
 use Rattle.engine.proofs.listing.Listing.pull.Given as given
@@ -26,11 +28,12 @@ returns-then-not-in-force g c =
 
 pub returns : need.returns
 returns g c =
+    let G = g .A·Approximator in
     let x = c .args .self .now in
     let t = c .args .token in
     let e = pull-found (standing (x .pegs)) (t .atom) (t .sense) (c .in-force .result) true (c .in-force .ensures) (c .if-not-in-force .left) in
     record {
       gives = ap (λ f. pull-gives f t) (sym e);
-      leaves = ap (begun x) (c .without-self .ensures .is) ∙ ap (λ f. pull-leaves f x t) (sym e);
-      law = λ h ran. pull-granted (g .A·Approximator) x (laws g (x .pile)) h ran (t .atom) (t .sense) (c .without-self .result) e (c .without-self .ensures .holds);
+      leaves = c .begin-anew .ensures ∙ ap (begun x) (c .without .ensures .is) ∙ ap (λ f. pull-leaves f x t) (sym e);
+      law = λ h ran. subst (Ran G (Pulled (t .atom) (t .sense) ∷ h)) (sym (c .begin-anew .ensures)) (pull-granted G x (laws g (x .pile)) h ran (t .atom) (t .sense) (c .without .result) e (c .without .ensures .holds));
     }
