@@ -25,7 +25,8 @@ use programs::RuleProgram;
 use solver::settle;
 
 // Whether z is the lower of the settled bounds of the reduct by z. Without aggregates that lower is the least model of
-// the reduct, so that z is a stable model (Gelfond and Lifschitz 1988), which is to say that z is stable.
+// the reduct, so that this decides whether z is a stable model (Gelfond and Lifschitz 1988); and the stable models are the
+// stable interpretations.
 pub fn is_stable_model<R: Reading>(program: &RuleProgram<R>, z: Interpretation) -> bool
     ensures settled { λ r. ⌜ ((b : Pair) × (Settles (table-meaning plain-sure plain-may (reduced z (now (program .entry) .table))) b × Decides r (b .lower ≡ z))) ⌝ }
     ensures model { λ r. ⌜ (NormalRules (now (program .entry) .table) → Decides r (StableModel (clauses-of (now (program .entry) .table)) z)) ⌝ }

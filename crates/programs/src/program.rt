@@ -19,6 +19,7 @@ use atoms::Interpretation;
 use tables::table::Aggregate;
 use tables::table::Table;
 
+// What the rules derive, with their aggregates as the reading takes them.
 #[derive(Drop)]
 pub struct RuleProgram<R> {
     table: RuleTable,

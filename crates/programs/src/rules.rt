@@ -19,6 +19,7 @@ use tables::table::Aggregate;
 use tables::table::Rule;
 use tables::table::Table;
 
+// At most 128 rules and 32 aggregates, over so many atoms.
 #[derive(Clone, Copy)]
 pub struct RuleTable {
     width: u8,
