@@ -1,6 +1,7 @@
-use mathlib.Core.Path.{_∙_, subst}
+use mathlib.Core.Path.{_≡_, _∙_, subst}
 use Prim.Native.Nat.{ℕ}
 use Rattle.std.proofs.shelf.Tests.{eqb-true, eq-eqb}
+use Rattle.atoms.specs.declared.bounds.Bounds.{Bounds}
 use Rattle.aggregates.specs.Readings.{plain-sure, plain-may}
 use Rattle.approx.specs.Settling.{Settles}
 use Rattle.programs.specs.Programs.{table-meaning}
@@ -10,6 +11,10 @@ use Rattle.classics.proofs.Closing.{lower-stable}
 use Rattle.classics.proofs.Reducing.{stable-model, model-stable}
 use Rattle.classics.proofs.models.is_stable_model.Needs as need
 
+-- what settles at a table settles at an equal one
+settles-at : {s t : RuleTable} {b : Bounds} → s ≡ t → Settles (table-meaning plain-sure plain-may s) b → Settles (table-meaning plain-sure plain-may t) b
+settles-at {b = b} e x = subst (λ (t : RuleTable). Settles (table-meaning plain-sure plain-may t) b) e x
+
 pub returns-in-Ok : need.returns-in-Ok
 returns-in-Ok g c =
     let p = c .args .program .now in
@@ -18,7 +23,7 @@ returns-in-Ok g c =
     let sure = g .R·Reading .sure (p .reading) in
     let may = g .R·Reading .may (p .reading) in
     let settled : Settles (table-meaning plain-sure plain-may (reduced z (p .table))) b =
-    subst (λ (t : RuleTable). Settles (table-meaning plain-sure plain-may t) b) (c .new .ensures .table ∙ c .reduct .ensures) (c .in-Ok .ensures tt .settled) in
+    settles-at {t = reduced z (p .table)} (c .new .ensures .table ∙ c .reduct .ensures) (c .in-Ok .ensures tt .settled) in
     record {
       settled = (b, (settled, ((λ e. eqb-true (b .lower) z e), (λ e. eq-eqb (b .lower) z e))));
       model = λ n.
