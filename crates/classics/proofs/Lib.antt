@@ -1,4 +1,5 @@
 mod Arguing
 mod Applying
 pub mod Reducing
+mod Closing
 mod Founding

@@ -7,7 +7,6 @@ use Prim.Native.Nat.{ℕ, _<_, _^_}
 use native.Mathlib.Nat.{mod-lt}
 use native.Mathlib.Omega.{arith}
 use lib.Bits.{bitAnd}
-use lib.Dec.{eqb}
 use lib.Pow.{pow-pos}
 use Rattle.std.proofs.shelf.Tests.{eqb-true, eq-eqb}
 use Rattle.atoms.specs.Sets.{Has, Within, Apart, clipped}
@@ -21,36 +20,37 @@ use Rattle.programs.specs.Programs.{Verdict, table-meaning}
 use Rattle.programs.specs.Tables.{width-of, clauses-of}
 use Rattle.programs.specs.declared.clause.Clause.{Clause}
 use Rattle.programs.specs.declared.rules.RuleTable.{RuleTable}
-use Rattle.classics.specs.StableModels.{unbarred, reduct, Model, StableModel}
+use Rattle.programs.specs.Reducts.{unbarred, spares, reduct}
+use Rattle.classics.specs.StableModels.{Model, StableModel}
 use Rattle.classics.proofs.Applying.{Applies, own, below-of, sure-in, sure-from}
 
 -- ---- the reduct, rule by rule
 reduct-in : (z : ℕ) (cs : List Clause) (c : Clause) → Among c cs → Apart (c .barred) z → Among (unbarred c) (reduct z cs)
 reduct-in z [] c m a = absurd m
 reduct-in z (x ∷ xs) c (inl e) a =
-    let t : eqb (bitAnd (x .barred) z) 0 ≡ true = eq-eqb (bitAnd (x .barred) z) 0 (subst (λ (y : Clause). bitAnd (y .barred) z ≡ 0) e (apart-none (c .barred) z a)) in
+    let t : spares z x ≡ true = eq-eqb (bitAnd (x .barred) z) 0 (subst (λ (y : Clause). bitAnd (y .barred) z ≡ 0) e (apart-none (c .barred) z a)) in
     subst (λ (b : Bool). Among (unbarred c) (cond b (unbarred x ∷ reduct z xs) (reduct z xs))) (sym t) (inl (ap unbarred e))
-reduct-in z (x ∷ xs) c (inr m) a = later (eqb (bitAnd (x .barred) z) 0) (reduct-in z xs c m a)
+reduct-in z (x ∷ xs) c (inr m) a = later (spares z x) (reduct-in z xs c m a)
   where
     later : (b : Bool) → Among (unbarred c) (reduct z xs) → Among (unbarred c) (cond b (unbarred x ∷ reduct z xs) (reduct z xs))
     later true k = inr k
     later false k = k
 
 -- the rule that a rule of the reduct comes from
-record Kept (z : ℕ) (cs : List Clause) (d : Clause) : Type 0 where
-  rule : Clause
-  among : Among rule cs
-  free : Apart (rule .barred) z
-  is : d ≡ unbarred rule
+pub record Kept (z : ℕ) (cs : List Clause) (d : Clause) : Type 0 where
+  pub rule : Clause
+  pub among : Among rule cs
+  pub free : Apart (rule .barred) z
+  pub is : d ≡ unbarred rule
 
-reduct-from : (z : ℕ) (cs : List Clause) (d : Clause) → Among d (reduct z cs) → Kept z cs d
+pub reduct-from : (z : ℕ) (cs : List Clause) (d : Clause) → Among d (reduct z cs) → Kept z cs d
 reduct-from z [] d m = absurd m
-reduct-from z (x ∷ xs) d m = by (eqb (bitAnd (x .barred) z) 0) refl (reduct-from z xs d) m
+reduct-from z (x ∷ xs) d m = by (spares z x) refl (reduct-from z xs d) m
   where
     further : Kept z xs d → Kept z (x ∷ xs) d
     further k = record { rule = k .rule; among = inr (k .among); free = k .free; is = k .is }
 
-    by : (b : Bool) → eqb (bitAnd (x .barred) z) 0 ≡ b → (Among d (reduct z xs) → Kept z xs d) → Among d (cond b (unbarred x ∷ reduct z xs) (reduct z xs)) → Kept z (x ∷ xs) d
+    by : (b : Bool) → spares z x ≡ b → (Among d (reduct z xs) → Kept z xs d) → Among d (cond b (unbarred x ∷ reduct z xs) (reduct z xs)) → Kept z (x ∷ xs) d
     by true e f (inl q) = record { rule = x; among = inl refl; free = apart-from (x .barred) z (eqb-true (bitAnd (x .barred) z) 0 e); is = q }
     by true e f (inr k) = further (f k)
     by false e f k = further (f k)

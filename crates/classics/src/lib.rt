@@ -3,5 +3,5 @@ mod extensions;
 mod models;
 
 pub use extensions::is_stable_extension;
-pub use models::stable_models;
+pub use models::is_stable_model;
 pub use models::well_founded_model;

@@ -122,9 +122,9 @@ clauses-more xs i d {x} {b} h few e ex q =
     ∙ pushed-laid 128 zero-clause (map clause-of (take i xs)) (clause-of (getD xs i d)) (omega arith) short
     ∙ ap (laid 128 zero-clause) (sym (map-more clause-of xs i d h))
 
--- there are at most 128 rules
-pub few-rules : (rules : Rows Rule 128) {xs : List Rule} → length (rules .items) ≤ 128 → xs ≡ in-use 128 rules → length xs ≤ 128
-few-rules rules h e = omega (arith, ap length e, length-take (rules .count) (rules .items))
+-- as many are in use as there are rows, at most
+pub few-rows : {T : Type 0} {N : ℕ} (rows : Rows T N) {xs : List T} → length (rows .items) ≤ N → xs ≡ in-use N rows → length xs ≤ N
+few-rows rows h e = omega (arith, ap length e, length-take (rows .count) (rows .items))
 
 -- ---- rows cut at a length that they do not pass
 pub cut-rows : {T : Type 0} (xs : List T) (n : ℕ) {k : ℕ} → k ≡ min (length xs) n → take (k - 0) xs ≡ take n xs

@@ -2,3 +2,4 @@ mod Gathering
 pub mod Following
 pub mod Obeying
 pub mod Naming
+mod Keeping

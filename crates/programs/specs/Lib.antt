@@ -3,3 +3,4 @@ pub mod Tables
 pub mod Deriving
 pub mod Programs
 pub mod Normal
+pub mod Reducts

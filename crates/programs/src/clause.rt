@@ -4,6 +4,7 @@ ghost use Prim.Native.Nat.{_^_};
 ghost use Rattle.atoms.specs.Sets.{clipped};
 ghost use Rattle.programs.specs.Clauses.{plain, negated, numbered, gathered, with-item, clause-of, Says};
 ghost use Rattle.programs.specs.Deriving.{fires, gives};
+ghost use Rattle.programs.specs.Reducts.{spares, unbarred};
 ghost use mathlib.Core.List.{[]};
 use atoms::Interpretation;
 use atoms::only;
@@ -91,6 +92,25 @@ impl Clause {
             clause = clause.with(*item);
         }
         clause
+    }
+
+    // Whether it bars no atom of the set.
+    pub(super) fn spares(self, set: Interpretation) -> bool
+        ensures { λ r. ⌜ r ≡ spares set self ⌝ }
+    {
+        self.barred & set == 0
+    }
+
+    // The same without its barred atoms.
+    pub(super) fn unbarred(self) -> Clause
+        ensures { λ r. ⌜ r ≡ unbarred self ⌝ }
+    {
+        Clause {
+            head: self.head,
+            needed: self.needed,
+            barred: 0,
+            aggregates: self.aggregates,
+        }
     }
 
     // Whether its needed atoms are all held, none of its barred atoms is possible, and its aggregates are all among those

@@ -8,6 +8,7 @@ ghost use Rattle.atoms.specs.Bounded.{Proper};
 ghost use Rattle.programs.specs.Deriving.{passing};
 ghost use Rattle.programs.specs.Normal.{NormalSheet, NormalRules};
 ghost use Rattle.programs.specs.Programs.{judged, below-width, SurelyFollow, PerhapsFollow, program-meaning};
+ghost use Rattle.programs.specs.Reducts.{reduced};
 ghost use Rattle.programs.specs.Tables.{rule-table};
 use super::clause::number_alone;
 use super::rules::RuleTable;
@@ -18,6 +19,7 @@ use atoms::Interpretation;
 use tables::table::Aggregate;
 use tables::table::Table;
 
+// What the rules derive, with their aggregates as the reading takes them.
 #[derive(Drop)]
 pub struct RuleProgram<R> {
     table: RuleTable,
@@ -96,6 +98,13 @@ impl<R: Reading> RuleProgram<R> {
         ensures normal { λ r. ⌜ (NormalSheet (now (table .entry)) → NormalRules (r .table)) ⌝ }
     {
         RuleProgram::new(RuleTable::of(table), reading)
+    }
+
+    // The rules that bar no atom of z, without their barred atoms: the reduct by z (Gelfond and Lifschitz 1988).
+    pub fn reduct(&self, z: Interpretation) -> RuleTable
+        ensures { λ r. ⌜ r ≡ reduced z (now (self .entry) .table) ⌝ }
+    {
+        self.table.reduct(z)
     }
 
     // The heads of the rules that fire whatever lies between the bounds. A crossed question is answered freely.

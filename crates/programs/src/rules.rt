@@ -1,12 +1,14 @@
 // The rules of a sheet as sets, with its aggregates.
 ghost use mathlib.Core.Path.{_≡_};
+ghost use mathlib.Core.Bool.{cond};
 ghost use Prim.Native.Nat.{_≤_};
 ghost use lib.ListN.{length};
-ghost use Rattle.tables.specs.Rows.{in-use};
+ghost use Rattle.tables.specs.Rows.{in-use, pushed};
 ghost use Rattle.programs.specs.Clauses.{AllSay};
 ghost use Rattle.programs.specs.Deriving.{derived};
 ghost use Rattle.programs.specs.Normal.{NormalSheet, NormalRules};
 ghost use Rattle.programs.specs.Programs.{below-width};
+ghost use Rattle.programs.specs.Reducts.{spares, unbarred, reduct-rows, reduced};
 ghost use Rattle.programs.specs.Tables.{clauses-from, rule-table, rules-of, clauses-of, aggregates-of, width-of};
 use super::clause::Clause;
 use atoms::Bounds;
@@ -17,6 +19,7 @@ use tables::table::Aggregate;
 use tables::table::Rule;
 use tables::table::Table;
 
+// At most 128 rules and 32 aggregates, over so many atoms.
 #[derive(Clone, Copy)]
 pub struct RuleTable {
     width: u8,
@@ -33,6 +36,26 @@ fn clauses_from(rules: Rows<Rule, 128>) -> Rows<Clause, 128>
         let _ = clauses.push(Clause::of(rule));
     }
     clauses
+}
+
+// Puts the rule without its barred atoms behind the others, unless it bars an atom of z.
+fn keep(rows: &mut Rows<Clause, 128>, clause: Clause, z: Interpretation)
+    ensures { λ _. ⌜ now (rows .exit) ≡ cond (spares z clause) (pushed 128 (now (rows .entry)) (unbarred clause)) (now (rows .entry)) ⌝ }
+{
+    if clause.spares(z) {
+        let _ = rows.push(clause.unbarred());
+    }
+}
+
+// The rules that bar no atom of z, without their barred atoms.
+fn reduct_rows(clauses: Rows<Clause, 128>, z: Interpretation) -> Rows<Clause, 128>
+    ensures { λ r. ⌜ r ≡ reduct-rows z (in-use 128 clauses) ⌝ }
+{
+    let mut reduct = Rows::new(Clause::fact(0));
+    for clause in clauses.as_slice() {
+        keep(&mut reduct, *clause, z);
+    }
+    reduct
 }
 
 impl RuleTable {
@@ -90,5 +113,16 @@ impl RuleTable {
             heads |= clause.share(held, possible, holding);
         }
         heads & full(self.atom_count())
+    }
+
+    // The table with the reduct of its rules by z.
+    pub(super) fn reduct(&self, z: Interpretation) -> RuleTable
+        ensures { λ r. ⌜ r ≡ reduced z (now (self .entry)) ⌝ }
+    {
+        RuleTable {
+            width: self.width,
+            clauses: reduct_rows(self.clauses, z),
+            aggregates: self.aggregates,
+        }
     }
 }
