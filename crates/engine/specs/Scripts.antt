@@ -17,7 +17,6 @@ use Rattle.engine.specs.Boards.{Granted, Denied}
 use Rattle.engine.specs.Histories.{History, Lawful}
 use Rattle.engine.specs.Listings.{next-event, peg-event, pull-event, peg-gives, pull-gives, Ran}
 use Rattle.engine.specs.declared.board.Board.{Board}
-use Rattle.engine.specs.declared.board.Refused.{Refused}
 use Rattle.engine.specs.declared.pegs.Sense.{Sense}
 use Rattle.engine.specs.declared.listing.Listing.{Listing}
 use Rattle.engine.specs.declared.listing.Token.{Token}
