@@ -1,6 +1,6 @@
-mod Turning
-mod Agreement
-mod Faulting
-mod Tracking
+pub mod Turning
+pub mod Agreement
+pub mod Faulting
+pub mod Tracking
 mod Acting
 mod Playing

@@ -1,16 +1,15 @@
 -- One atom put into a set of atoms or taken out, and what that does to the pegs in force.
 use mathlib.Core.Path.{_≡_, refl, sym, ap, _∙_, subst}
 use mathlib.Core.Bool.{Bool, true, false, cond}
-use mathlib.Core.Logic.{_⊎_, inl, inr}
+use mathlib.Core.Logic.{inl, inr}
 use Prim.Native.Nat.{ℕ, _^_, _<_}
 use native.Mathlib.Nat.{mod-lt}
-use native.Mathlib.Omega.{arith}
 use lib.Bits.{bitOr}
 use lib.Dec.{eqb}
 use lib.Pow.{pow-pos}
 use Rattle.std.proofs.shelf.Tests.{cases-eq, eq-eqb, ne-eqb}
 use Rattle.atoms.specs.Sets.{digit, Has, has, lacking}
-use Rattle.atoms.proofs.Digits.{lacks-not, lacks-from, has-or-lacks, same-digit, has-or-l, has-or-r, has-or-cases, pow-has, pow-only, pow-mod-same, mod-digit}
+use Rattle.atoms.proofs.Digits.{lacks-not, lacks-from, same-digit, has-or-l, has-or-r, has-or-cases, pow-has, pow-only, pow-mod-same, mod-digit}
 use Rattle.atoms.proofs.Lacking.{below-wide, lacking-has, lacking-lacks, lacking-in}
 use Rattle.engine.specs.Standing.{standing, with-peg, without-peg, alone, Turned}
 use Rattle.engine.specs.declared.pegs.Sense.{Sense}

@@ -1,7 +1,7 @@
 -- Scripts: what answers a command, what becomes of the pool of tokens, and the law of whole runs.
 use mathlib.Core.Path.{_≡_}
 use mathlib.Core.List.{List, [], _∷_, _++_}
-use Prim.Native.Nat.{ℕ, _<_, _≤_}
+use Prim.Native.Nat.{ℕ, _+_, _<_, _≤_}
 use lib.ListN.{length, take, getD}
 use Rattle.std.specs.Holes.{removed}
 use Rattle.std.specs.declared.option.Option.{Option}
@@ -17,7 +17,6 @@ use Rattle.engine.specs.Boards.{Granted, Denied}
 use Rattle.engine.specs.Histories.{History, Lawful}
 use Rattle.engine.specs.Listings.{next-event, peg-event, pull-event, peg-gives, pull-gives, Ran}
 use Rattle.engine.specs.declared.board.Board.{Board}
-use Rattle.engine.specs.declared.board.Refused.{Refused}
 use Rattle.engine.specs.declared.pegs.Sense.{Sense}
 use Rattle.engine.specs.declared.listing.Listing.{Listing}
 use Rattle.engine.specs.declared.listing.Token.{Token}
@@ -50,6 +49,11 @@ pool-pegged (Some f) p i s = p
 abbrev pub pool-pulled : Option BenchFault → List Token → ℕ → Token → List Token
 pool-pulled None p k t = removed p k
 pool-pulled (Some f) p k t = removed p k ++ t ∷ []
+
+-- a pool or a log with `len` of `cap` places taken has at most one more taken afterwards, and no fewer places
+pub record OneMore (len cap len′ cap′ : ℕ) : Type 0 where
+  pub taken : len′ ≤ len + 1
+  pub places : cap ≤ cap′
 
 -- ---- what answers a command
 -- one pull was made, with the token that lay at the place
@@ -125,3 +129,10 @@ module _ {X : Type 0} (G : Ghosts X) where
   RunLaw board script p q log after (Short x) = (count : ℕ) × (count < length script) × Runs board (take count script) p q log after x
   RunLaw board script p q log after (NotListed u) = RunsUnlisted board u × (q ≡ p) × (after ≡ log)
   RunLaw board script p q log after (NotSettled r) = Denied G board r × (q ≡ p) × (after ≡ log)
+
+-- the script was not cut short
+abbrev pub InFull : {X : Type 0} → Outcome X → Type 0
+InFull (Whole x) = Unit {0}
+InFull (Short x) = ⊥
+InFull (NotListed u) = Unit {0}
+InFull (NotSettled r) = Unit {0}

@@ -1,11 +1,7 @@
 // The boards, as types that move: a board that is read, and one that is settled.
 ghost use mathlib.Core.Path.{_≡_};
-ghost use Prim.Native.Nat.{ℕ};
 ghost use Rattle.std.specs.Results.{Cases};
-ghost use Rattle.atoms.specs.Bounded.{Between};
-ghost use Rattle.atoms.specs.declared.bounds.Bounds.{Bounds as Pair};
 ghost use Rattle.approx.specs.Meanings.{meaning};
-ghost use Rattle.approx.specs.Stability.{Stable};
 ghost use Rattle.approx.specs.Settling.{Rounds};
 ghost use Rattle.engine.specs.Boards.{Granted, Denied};
 use approx::Approximator;

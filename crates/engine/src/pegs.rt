@@ -1,7 +1,7 @@
 // Pegs: the atoms that are to be on, and those that are to be off.
 ghost use mathlib.Core.Path.{_≡_};
 ghost use mathlib.Core.Bool.{true, false, _||_};
-ghost use Prim.Native.Nat.{ℕ, _<_};
+ghost use Prim.Native.Nat.{_<_};
 ghost use Rattle.engine.specs.Standing.{no-pegs, standing, with-peg, without-peg, pegs-count, Turned};
 ghost use Rattle.engine.specs.declared.pegs.Sense.the-variants.{On, Off};
 use atoms::Interpretation;

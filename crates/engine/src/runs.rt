@@ -1,10 +1,12 @@
 // Whole runs of a listing: a script of commands is performed, and what each call gave is written down.
 ghost use mathlib.Core.Path.{_≡_};
 ghost use mathlib.Core.List.{List, [], _∷_};
-ghost use Prim.Native.Nat.{_<_};
-ghost use Rattle.std.specs.Results.{Cases};
+ghost use mathlib.Core.Bool.{true};
+ghost use Prim.Native.Nat.{_+_, _<_, _≤_};
+ghost use lib.ListN.{length};
+ghost use Rattle.std.specs.Results.{Cases, isOk};
 ghost use Rattle.std.specs.Of.Vec.{vec-items, vec-len, vec-cap};
-ghost use Rattle.engine.specs.Scripts.{events, Acts, Performs, Plays, PlaysFront, RunLaw};
+ghost use Rattle.engine.specs.Scripts.{events, OneMore, Acts, Performs, Plays, PlaysFront, RunLaw, InFull};
 ghost use Rattle.engine.specs.declared.listing.Token.{Token as Tok};
 ghost use Rattle.engine.specs.declared.runs.Command.the-variants.{Next, Peg, Pull};
 use super::board::Board;
@@ -69,7 +71,8 @@ fn peg_into<A: Approximator>(
     tokens: &mut Vec<Token>,
 ) -> Event
     requires { ⌜ vec-len (now tokens) < vec-cap (now tokens) ⌝ }
-    ensures { λ r. ⌜ Acts A·Approximator (Peg atom sense) (vec-items (now (tokens .entry))) (vec-items (now (tokens .exit))) (now (listing .entry)) (now (listing .exit)) (r ∷ []) ⌝ }
+    ensures acts { λ r. ⌜ Acts A·Approximator (Peg atom sense) (vec-items (now (tokens .entry))) (vec-items (now (tokens .exit))) (now (listing .entry)) (now (listing .exit)) (r ∷ []) ⌝ }
+    ensures room { λ r. ⌜ OneMore (vec-len (now (tokens .entry))) (vec-cap (now (tokens .entry))) (vec-len (now (tokens .exit))) (vec-cap (now (tokens .exit))) ⌝ }
 {
     match listing.peg(atom, sense) {
         Ok(token) => {
@@ -87,7 +90,8 @@ fn pull_from<A: Approximator>(
     tokens: &mut Vec<Token>,
 ) -> Option<Event>
     requires { ⌜ vec-len (now tokens) < vec-cap (now tokens) ⌝ }
-    ensures { λ r. ⌜ Acts A·Approximator (Pull place) (vec-items (now (tokens .entry))) (vec-items (now (tokens .exit))) (now (listing .entry)) (now (listing .exit)) (events r) ⌝ }
+    ensures acts { λ r. ⌜ Acts A·Approximator (Pull place) (vec-items (now (tokens .entry))) (vec-items (now (tokens .exit))) (now (listing .entry)) (now (listing .exit)) (events r) ⌝ }
+    ensures room { λ r. ⌜ OneMore (vec-len (now (tokens .entry))) (vec-cap (now (tokens .entry))) (vec-len (now (tokens .exit))) (vec-cap (now (tokens .exit))) ⌝ }
 {
     if place >= tokens.len() {
         return None;
@@ -112,7 +116,8 @@ fn act<A: Approximator>(
     tokens: &mut Vec<Token>,
 ) -> Option<Event>
     requires { ⌜ vec-len (now tokens) < vec-cap (now tokens) ⌝ }
-    ensures { λ r. ⌜ Acts A·Approximator command (vec-items (now (tokens .entry))) (vec-items (now (tokens .exit))) (now (listing .entry)) (now (listing .exit)) (events r) ⌝ }
+    ensures acts { λ r. ⌜ Acts A·Approximator command (vec-items (now (tokens .entry))) (vec-items (now (tokens .exit))) (now (listing .entry)) (now (listing .exit)) (events r) ⌝ }
+    ensures room { λ r. ⌜ OneMore (vec-len (now (tokens .entry))) (vec-cap (now (tokens .entry))) (vec-len (now (tokens .exit))) (vec-cap (now (tokens .exit))) ⌝ }
 {
     match command {
         Command::Next => Some(hand_out(listing)),
@@ -133,9 +138,12 @@ fn perform<A: Approximator>(
     tokens: &mut Vec<Token>,
     log: &mut Vec<Event>,
 ) -> Result<(), AllocError>
-    ensures { λ r. ⌜ Cases r
+    ensures acts { λ r. ⌜ Cases r
         (λ _. Performs A·Approximator command (vec-items (now (tokens .entry))) (vec-items (now (tokens .exit))) (vec-items (now (log .entry))) (vec-items (now (log .exit))) (now (listing .entry)) (now (listing .exit)))
         (λ _. (vec-items (now (tokens .exit)) ≡ vec-items (now (tokens .entry))) × (vec-items (now (log .exit)) ≡ vec-items (now (log .entry))) × (now (listing .exit) ≡ now (listing .entry))) ⌝ }
+    ensures room { λ r. ⌜ OneMore (vec-len (now (tokens .entry))) (vec-cap (now (tokens .entry))) (vec-len (now (tokens .exit))) (vec-cap (now (tokens .exit)))
+        × OneMore (vec-len (now (log .entry))) (vec-cap (now (log .entry))) (vec-len (now (log .exit))) (vec-cap (now (log .exit))) ⌝ }
+    ensures whole { λ r. ⌜ (vec-len (now (tokens .entry)) < vec-cap (now (tokens .entry)) → vec-len (now (log .entry)) < vec-cap (now (log .entry)) → isOk r ≡ true) ⌝ }
 {
     tokens.reserve(1)?;
     log.reserve(1)?;
@@ -152,9 +160,10 @@ pub fn play<A: Approximator>(
     tokens: &mut Vec<Token>,
     log: &mut Vec<Event>,
 ) -> Result<(), AllocError>
-    ensures { λ r. ⌜ Cases r
+    ensures plays { λ r. ⌜ Cases r
         (λ _. Plays A·Approximator (now (script .entry)) (vec-items (now (tokens .entry))) (vec-items (now (tokens .exit))) (vec-items (now (log .entry))) (vec-items (now (log .exit))) (now (listing .entry)) (now (listing .exit)))
         (λ _. PlaysFront A·Approximator (now (script .entry)) (vec-items (now (tokens .entry))) (vec-items (now (tokens .exit))) (vec-items (now (log .entry))) (vec-items (now (log .exit))) (now (listing .entry)) (now (listing .exit))) ⌝ }
+    ensures whole { λ r. ⌜ (vec-len (now (tokens .entry)) + length (now (script .entry)) ≤ vec-cap (now (tokens .entry)) → vec-len (now (log .entry)) + length (now (script .entry)) ≤ vec-cap (now (log .entry)) → isOk r ≡ true) ⌝ }
 {
     for command in script {
         perform(listing, *command, tokens, log)?;
@@ -169,7 +178,8 @@ pub fn run<A: Approximator>(
     tokens: &mut Vec<Token>,
     log: &mut Vec<Event>,
 ) -> Outcome<A>
-    ensures { λ r. ⌜ RunLaw A·Approximator board (now (script .entry)) (vec-items (now (tokens .entry))) (vec-items (now (tokens .exit))) (vec-items (now (log .entry))) (vec-items (now (log .exit))) r ⌝ }
+    ensures law { λ r. ⌜ RunLaw A·Approximator board (now (script .entry)) (vec-items (now (tokens .entry))) (vec-items (now (tokens .exit))) (vec-items (now (log .entry))) (vec-items (now (log .exit))) r ⌝ }
+    ensures whole { λ r. ⌜ (vec-len (now (tokens .entry)) + length (now (script .entry)) ≤ vec-cap (now (tokens .entry)) → vec-len (now (log .entry)) + length (now (script .entry)) ≤ vec-cap (now (log .entry)) → InFull r) ⌝ }
 {
     match board.settle() {
         Err(back) => Outcome::NotSettled(back),
