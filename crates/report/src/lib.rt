@@ -73,7 +73,12 @@ fn print_states(rt: &LibcRuntime, table: &Table, text: &[u8], bounds: Bounds) ->
     Ok(())
 }
 
-fn print_standing(rt: &LibcRuntime, table: &Table, text: &[u8], standing: Interpretation) -> io::Result<()> {
+fn print_standing(
+    rt: &LibcRuntime,
+    table: &Table,
+    text: &[u8],
+    standing: Interpretation,
+) -> io::Result<()> {
     print!(rt, "standing")?;
     for atom in 0..table.width {
         if has(standing, atom) {
@@ -84,7 +89,12 @@ fn print_standing(rt: &LibcRuntime, table: &Table, text: &[u8], standing: Interp
     println!(rt, "")
 }
 
-fn print_listing(rt: &LibcRuntime, table: &Table, text: &[u8], mut listing: Listing<Pile>) -> io::Result<()> {
+fn print_listing(
+    rt: &LibcRuntime,
+    table: &Table,
+    text: &[u8],
+    mut listing: Listing<Pile>,
+) -> io::Result<()> {
     for _ in 0..MOST {
         match listing.next() {
             Some(standing) => print_standing(rt, table, text, standing)?,
