@@ -3,3 +3,4 @@ mod Applying
 pub mod Reducing
 mod Closing
 mod Founding
+mod Written

@@ -1,3 +1,4 @@
 pub mod Extensions
 pub mod StableModels
 pub mod WellFounded
+pub mod Sheets

@@ -13,6 +13,7 @@ ghost use Rattle.programs.specs.Programs.{table-meaning, program-meaning};
 ghost use Rattle.programs.specs.Reducts.{reduced};
 ghost use Rattle.programs.specs.Tables.{clauses-of, width-of};
 ghost use Rattle.classics.specs.StableModels.{StableModel};
+ghost use Rattle.classics.specs.Sheets.{SheetsNormal};
 ghost use Rattle.classics.specs.WellFounded.{TheWellFounded};
 use aggregates::Plain;
 use aggregates::PlainReading;
@@ -43,6 +44,7 @@ pub fn is_stable_model<R: Reading>(program: &RuleProgram<R>, z: Interpretation) 
 pub fn well_founded_model<R: Reading>(program: &RuleProgram<R>) -> Result<Bounds, BenchFault>
     ensures settled { λ r. ⌜ Cases r (λ b. Settles (program-meaning R·Reading (now (program .entry))) b) (λ _. ⊥) ⌝ }
     ensures model { λ r. ⌜ Cases r (λ b. NormalRules (now (program .entry) .table) → TheWellFounded (width-of (now (program .entry) .table)) (clauses-of (now (program .entry) .table)) b) (λ _. ⊥) ⌝ }
+    ensures sheets { λ _. ⌜ SheetsNormal ⌝ }
 {
     settle(program)
 }
