@@ -84,7 +84,7 @@ has_or_cases a b i h = elim (has_or_lacks a i) [
 
 -- ---- extensionality
 pub digit_zero : (s : ℕ) → digit s 0 ≡ s % 2
-digit_zero s = ap (λ (x : ℕ). x % 2) (native.Mathlib.Nat.div_one s)
+digit_zero s = ap (λ (x : ℕ). x % 2) (native.Mathlib.Nat.div-one s)
 
 pub empty_zero : (b : ℕ) → ((i : ℕ) → digit b i ≡ 0) → b ≡ 0
 empty_zero = bin_ind (λ (n : ℕ). ((i : ℕ) → digit n i ≡ 0) → n ≡ 0) (λ _. refl)

@@ -1,6 +1,7 @@
 // Answers the sheets of the corpus one after another, as the bench does. The stored output was written by the other
 // implementation, in oracle/. A case is its length in decimal, a newline, and so
 // many bytes.
+#![tactic(auto)]
 use report::print_answer;
 use std::{fs, io};
 

@@ -9,7 +9,7 @@ use Rattle.programs.specs.Programs.{Verdict, surely, perhaps, table_meaning}
 use Rattle.programs.specs.Tables.{width_of, clauses_of, aggregates_of}
 use Rattle.programs.specs.declared.clause.Clause.{Clause}
 use Rattle.programs.specs.declared.rules.RuleTable.{RuleTable}
-use Rattle.programs.proofs.Following.{derived_from, derived_in}
+use Rattle.programs.specs.Following.{derived_from, derived_in}
 
 -- atom i is the head of a rule with its needed atoms in h and its barred atoms outside p
 pub record Applies (cs : List Clause) (h p i : ℕ) : Type 0 where

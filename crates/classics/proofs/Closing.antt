@@ -16,7 +16,7 @@ use Rattle.programs.specs.Reducts.{reduct, reduced}
 use Rattle.programs.specs.Tables.{zero_clause, width_of, clauses_of, aggregates_of}
 use Rattle.programs.specs.declared.clause.Clause.{Clause}
 use Rattle.programs.specs.declared.rules.RuleTable.{RuleTable}
-use Rattle.programs.proofs.Following.{derived_from, derived_in}
+use Rattle.programs.specs.Following.{derived_from, derived_in}
 use Rattle.classics.specs.StableModels.{Model, StableModel}
 use Rattle.classics.proofs.Reducing.{reduct_from}
 

@@ -17,7 +17,7 @@ use Rattle.programs.specs.Normal.{NormalRules}
 use Rattle.programs.specs.Programs.{Verdict, table_meaning}
 use Rattle.programs.specs.Tables.{width_of, clauses_of}
 use Rattle.programs.specs.declared.rules.RuleTable.{RuleTable}
-use Rattle.programs.proofs.Following.{derived_below}
+use Rattle.programs.specs.Following.{derived_below}
 use Rattle.classics.specs.WellFounded.{Meets, Unfounded, Fixpoint, WellFounded, TheWellFounded}
 use Rattle.classics.proofs.Applying.{Applies, own, below_of, sure_in, sure_from, may_in, may_from}
 

@@ -1,4 +1,5 @@
 // The classical semantics: what is stable and what is settled here, as the literature defines it.
+#![tactic(auto)]
 mod extensions;
 mod models;
 

@@ -1,5 +1,7 @@
 // Why a sheet is refused: one enum for each layer, the lower inside the higher, so that `?` carries a fault up.
 // Each fault has a number, the layer that found it, and its spot in the text; specs/Faults.antt is the one table of them.
+#![tactic(auto)]
+
 ghost use Rattle.std.specs.Prelude.{◌≡◌};
 ghost use Rattle.faults.specs.declared.BenchFault.TheVariants.{Sheet};
 ghost use Rattle.faults.specs.declared.SheetFault.TheVariants.{Text};

@@ -41,6 +41,9 @@ unattacked_down t w {s} {z} p = record {
 }
 
 -- ---- the laws
+pub framework_wide : (f : Framework) → (0 < width_of f) × (width_of f ≤ 64)
+framework_wide f = (omega arith, omega arith)
+
 pub framework_below : (f : Framework) (s : ℕ) → unattacked f.table (width_of f) (clipped (width_of f) s) < 2 ^ width_of f
 framework_below f s = collected_below (stands f.table (clipped (width_of f) s)) (width_of f)
 

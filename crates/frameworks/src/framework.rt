@@ -2,8 +2,8 @@
 ghost use Rattle.std.specs.Prelude.{◌≡◌, ℕ, ◌^◌, ◌<◌, ◌≤◌};
 ghost use Rattle.atoms.specs.Sets.{Within, clipped, all_below};
 ghost use Rattle.frameworks.specs.Frameworks.{width_of, sure_of, may_of};
-ghost use Rattle.frameworks.specs.Standing.{framework_down, framework_below, framework_ignores};
-ghost use Rattle.std.proofs.Common.{rules};
+ghost use Rattle.frameworks.specs.Standing.{framework_wide, framework_down, framework_below, framework_ignores};
+ghost use Rattle.std.proofs.Common.{refl};
 
 use super::table::RelayTable;
 use approx::Approximator;
@@ -44,9 +44,9 @@ impl Approximator for Framework {
 
     ghost may = { may_of };
 
-    ghost wide = { Prim.search rules };
+    ghost wide = { framework_wide };
 
-    ghost exact = { Prim.search rules };
+    ghost exact = { λ f z h. refl };
 
     ghost precise = { λ f l k v u p q r h. (framework_down f r, framework_down f p) };
 

@@ -1,5 +1,7 @@
 // The grammar of a sheet's lines. For each kind of line a state says what has been read of it; a word moves the state
 // on, or is wrong there. So the leftmost word that cannot stand is the first at which no state follows.
+#![tactic(auto)]
+
 mod count;
 mod load;
 mod name;

@@ -1,4 +1,1 @@
-mod Joining
-mod Tripping
-mod Cutting
 mod Berthing

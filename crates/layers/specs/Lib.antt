@@ -3,3 +3,7 @@ pub mod Triggers
 pub mod CutOuts
 pub mod Shifts
 pub mod Berths
+pub mod Joining
+pub mod Tripping
+pub mod Cutting
+pub mod Shifting

@@ -4,7 +4,8 @@ ghost use Rattle.atoms.specs.Sets.{Within, clipped};
 ghost use Rattle.approx.specs.Meanings.{meaning};
 ghost use Rattle.layers.specs.Shifts.{answered, berthed};
 ghost use Rattle.layers.specs.Berths.{Granted, Denied};
-ghost use Rattle.std.proofs.Common.{rules};
+ghost use Rattle.approx.proofs.Laws.{lawful};
+ghost use Rattle.layers.specs.Shifting.{berthed_lawful};
 
 use super::slot::Slot;
 use approx::Approximator;
@@ -45,14 +46,14 @@ impl<A: Approximator> Berth<A> {
 
     // What is surely on in the pile by the question moved down, which is crossed only where the question that came is.
     fn sure_below(&self, bounds: Bounds) -> Interpretation
-        ensures { Within (clipped self.now.slot.width bounds.lower) (clipped self.now.slot.width bounds.upper) → result ≡ answered self.now.slot.first self.now.slot.width (sure self.now.pile) bounds.lower bounds.upper }
+        ensures { Within (clipped self.now.slot.width bounds.lower) (clipped self.now.slot.width bounds.upper) → result ≡ answered self.now.slot.first self.now.slot.width (A.sure self.now.pile) bounds.lower bounds.upper }
     {
         self.pile.sure(self.slot.asked(bounds))
     }
 
     // What can be on in the pile, likewise.
     fn may_below(&self, bounds: Bounds) -> Interpretation
-        ensures { Within (clipped self.now.slot.width bounds.lower) (clipped self.now.slot.width bounds.upper) → result ≡ answered self.now.slot.first self.now.slot.width (may self.now.pile) bounds.lower bounds.upper }
+        ensures { Within (clipped self.now.slot.width bounds.lower) (clipped self.now.slot.width bounds.upper) → result ≡ answered self.now.slot.first self.now.slot.width (A.may self.now.pile) bounds.lower bounds.upper }
     {
         self.pile.may(self.slot.asked(bounds))
     }
@@ -65,7 +66,15 @@ impl<A: Approximator> Approximator for Berth<A> {
 
     ghost may = { λ b. (berthed b.slot.first b.slot.width (meaning A.Approximator b.pile)).may };
 
-    ghost wide = { Prim.search rules };
+    ghost wide = { λ b. (berthed_lawful b.slot.first b.slot.width b.slot.fits (lawful (record { width = A.width; sure = A.sure; may = A.may }) A.wide A.exact A.precise A.below A.ignores b.pile)).wide };
+
+    ghost exact = { λ b z h. (berthed_lawful b.slot.first b.slot.width b.slot.fits (lawful (record { width = A.width; sure = A.sure; may = A.may }) A.wide A.exact A.precise A.below A.ignores b.pile)).exact z };
+
+    ghost precise = { λ b l k v u p q r h. (berthed_lawful b.slot.first b.slot.width b.slot.fits (lawful (record { width = A.width; sure = A.sure; may = A.may }) A.wide A.exact A.precise A.below A.ignores b.pile)).precise l k v u p q r };
+
+    ghost below = { λ b l u p h. (berthed_lawful b.slot.first b.slot.width b.slot.fits (lawful (record { width = A.width; sure = A.sure; may = A.may }) A.wide A.exact A.precise A.below A.ignores b.pile)).below l u p };
+
+    ghost ignores = { λ b l u p. (berthed_lawful b.slot.first b.slot.width b.slot.fits (lawful (record { width = A.width; sure = A.sure; may = A.may }) A.wide A.exact A.precise A.below A.ignores b.pile)).ignores l u p };
 
     fn width(&self) -> u8 {
         self.slot.width()

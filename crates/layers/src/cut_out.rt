@@ -2,7 +2,8 @@
 ghost use Rattle.std.specs.Prelude.{◌≡◌};
 ghost use Rattle.approx.specs.Meanings.{meaning};
 ghost use Rattle.layers.specs.CutOuts.{dropped, cut_out};
-ghost use Rattle.std.proofs.Common.{rules};
+ghost use Rattle.approx.proofs.Laws.{lawful};
+ghost use Rattle.layers.specs.Cutting.{cut_out_lawful};
 
 use super::triggers::TriggerTable;
 use approx::Approximator;
@@ -39,7 +40,15 @@ impl<A: Approximator> Approximator for CutOut<A> {
 
     ghost may = { λ c. (cut_out c.table (meaning A.Approximator c.pile)).may };
 
-    ghost wide = { Prim.search rules };
+    ghost wide = { λ c. (cut_out_lawful c.table (lawful (record { width = A.width; sure = A.sure; may = A.may }) A.wide A.exact A.precise A.below A.ignores c.pile)).wide };
+
+    ghost exact = { λ c z h. (cut_out_lawful c.table (lawful (record { width = A.width; sure = A.sure; may = A.may }) A.wide A.exact A.precise A.below A.ignores c.pile)).exact z };
+
+    ghost precise = { λ c l k v u p q r h. (cut_out_lawful c.table (lawful (record { width = A.width; sure = A.sure; may = A.may }) A.wide A.exact A.precise A.below A.ignores c.pile)).precise l k v u p q r };
+
+    ghost below = { λ c l u p h. (cut_out_lawful c.table (lawful (record { width = A.width; sure = A.sure; may = A.may }) A.wide A.exact A.precise A.below A.ignores c.pile)).below l u p };
+
+    ghost ignores = { λ c l u p. (cut_out_lawful c.table (lawful (record { width = A.width; sure = A.sure; may = A.may }) A.wide A.exact A.precise A.below A.ignores c.pile)).ignores l u p };
 
     fn width(&self) -> u8 {
         self.pile.width()

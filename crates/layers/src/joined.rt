@@ -3,7 +3,8 @@ ghost use Rattle.std.specs.Prelude.{◌≡◌, ℕ, ◌≤◌};
 ghost use Rattle.atoms.specs.Sets.{Within, clipped};
 ghost use Rattle.approx.specs.Meanings.{meaning};
 ghost use Rattle.layers.specs.Joined.{joined};
-ghost use Rattle.std.proofs.Common.{rules};
+ghost use Rattle.approx.proofs.Laws.{lawful};
+ghost use Rattle.layers.specs.Joining.{joined_lawful};
 
 use approx::Approximator;
 use atoms::{Bounds, Interpretation};
@@ -26,14 +27,14 @@ impl<A: Approximator, B: Approximator> Joined<A, B> {
 
 // What is surely on by one of the two. A question that is not crossed below a larger width is not crossed below its own.
 fn sure_of<A: Approximator>(side: &A, bounds: Bounds) -> Interpretation
-    ensures { (w : ℕ) → width side.now ≤ w → Within (clipped w bounds.lower) (clipped w bounds.upper) → result ≡ sure side.now bounds.lower bounds.upper }
+    ensures { (w : ℕ) → A.width side.now ≤ w → Within (clipped w bounds.lower) (clipped w bounds.upper) → result ≡ A.sure side.now bounds.lower bounds.upper }
 {
     side.sure(bounds)
 }
 
 // What can be on by one of the two, likewise.
 fn may_of<A: Approximator>(side: &A, bounds: Bounds) -> Interpretation
-    ensures { (w : ℕ) → width side.now ≤ w → Within (clipped w bounds.lower) (clipped w bounds.upper) → result ≡ may side.now bounds.lower bounds.upper }
+    ensures { (w : ℕ) → A.width side.now ≤ w → Within (clipped w bounds.lower) (clipped w bounds.upper) → result ≡ A.may side.now bounds.lower bounds.upper }
 {
     side.may(bounds)
 }
@@ -45,7 +46,15 @@ impl<A: Approximator, B: Approximator> Approximator for Joined<A, B> {
 
     ghost may = { λ j. (joined (meaning A.Approximator j.left) (meaning B.Approximator j.right)).may };
 
-    ghost wide = { Prim.search rules };
+    ghost wide = { λ j. (joined_lawful (lawful (record { width = A.width; sure = A.sure; may = A.may }) A.wide A.exact A.precise A.below A.ignores j.left) (lawful (record { width = B.width; sure = B.sure; may = B.may }) B.wide B.exact B.precise B.below B.ignores j.right)).wide };
+
+    ghost exact = { λ j z h. (joined_lawful (lawful (record { width = A.width; sure = A.sure; may = A.may }) A.wide A.exact A.precise A.below A.ignores j.left) (lawful (record { width = B.width; sure = B.sure; may = B.may }) B.wide B.exact B.precise B.below B.ignores j.right)).exact z };
+
+    ghost precise = { λ j l k v u p q r h. (joined_lawful (lawful (record { width = A.width; sure = A.sure; may = A.may }) A.wide A.exact A.precise A.below A.ignores j.left) (lawful (record { width = B.width; sure = B.sure; may = B.may }) B.wide B.exact B.precise B.below B.ignores j.right)).precise l k v u p q r };
+
+    ghost below = { λ j l u p h. (joined_lawful (lawful (record { width = A.width; sure = A.sure; may = A.may }) A.wide A.exact A.precise A.below A.ignores j.left) (lawful (record { width = B.width; sure = B.sure; may = B.may }) B.wide B.exact B.precise B.below B.ignores j.right)).below l u p };
+
+    ghost ignores = { λ j l u p. (joined_lawful (lawful (record { width = A.width; sure = A.sure; may = A.may }) A.wide A.exact A.precise A.below A.ignores j.left) (lawful (record { width = B.width; sure = B.sure; may = B.may }) B.wide B.exact B.precise B.below B.ignores j.right)).ignores l u p };
 
     fn width(&self) -> u8 {
         self.left.width().max(self.right.width())

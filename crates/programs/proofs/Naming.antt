@@ -10,7 +10,7 @@ use Rattle.tables.specs.declared.table.Table.{Table}
 use Rattle.programs.specs.Clauses.{Among, clause_of, AllSay}
 use Rattle.programs.specs.Tables.{zero_clause, rule_table, rules_of, clauses_of, width_of}
 use Rattle.programs.specs.Normal.{Normal, NormalRules, NormalRule, NormalSheet}
-use Rattle.programs.proofs.Gathering.{clause_says}
+use Rattle.programs.specs.Gathering.{clause_says}
 
 -- a set of atoms below w is below 2 ^ w
 atoms_below : (w s : ℕ) → ((i : ℕ) → Has s i → i < w) → s < 2 ^ w

@@ -4,3 +4,6 @@ pub mod Deriving
 pub mod Programs
 pub mod Normal
 pub mod Reducts
+pub mod Gathering
+pub mod Following
+pub mod Obeying

@@ -7,7 +7,7 @@ ghost use Rattle.programs.specs.Normal.{NormalSheet, NormalRules};
 ghost use Rattle.programs.specs.Programs.{judged, below_width, SurelyFollow, PerhapsFollow, program_meaning};
 ghost use Rattle.programs.specs.Reducts.{reduced};
 ghost use Rattle.programs.specs.Tables.{rule_table};
-ghost use Rattle.std.proofs.Common.{rules};
+ghost use Rattle.programs.specs.Obeying.{program_lawful};
 
 use super::clause::number_alone;
 use super::rules::RuleTable;
@@ -142,7 +142,15 @@ impl<R: Reading> Approximator for RuleProgram<R> {
 
     ghost may = { λ p. (program_meaning R.Reading p).may };
 
-    ghost wide = { Prim.search rules };
+    ghost wide = { λ p. (program_lawful (record { sure = R.sure; may = R.may }) R.truth R.precise p).wide };
+
+    ghost exact = { λ p z h. (program_lawful (record { sure = R.sure; may = R.may }) R.truth R.precise p).exact z };
+
+    ghost precise = { λ p l k v u x y z h. (program_lawful (record { sure = R.sure; may = R.may }) R.truth R.precise p).precise l k v u x y z };
+
+    ghost below = { λ p l u x h. (program_lawful (record { sure = R.sure; may = R.may }) R.truth R.precise p).below l u x };
+
+    ghost ignores = { λ p l u x. (program_lawful (record { sure = R.sure; may = R.may }) R.truth R.precise p).ignores l u x };
 
     fn width(&self) -> u8 {
         self.table.atom_count()

@@ -1,6 +1,7 @@
 // From a sheet's bytes to the bench's whole answer, which it prints: each mark with `on`, `off` or `open`, each stable
 // interpretation as a line `standing`, and their number; or the refusal. The rule part, by the bound reading, is joined
 // with the relay part.
+#![tactic(auto)]
 use aggregates::Bound;
 use atoms::{Bounds, Interpretation, State, has};
 use engine::{Board, Listing, Settled};

@@ -1,5 +1,7 @@
 // What the engine computes, written once over any approximator: the settled bounds, whether an interpretation is stable,
 // and a search for the stable ones between bounds. No question that it puts is crossed.
+#![tactic(auto)]
+
 mod pegs;
 mod search;
 mod settling;

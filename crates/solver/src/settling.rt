@@ -11,8 +11,8 @@ use faults::BenchFault;
 
 // The climb by sure from no atom, under the upper.
 pub(crate) fn climb_lower<A: Approximator>(pile: &A, upper: Interpretation) -> Interpretation
-    requires { Within (sure pile.now upper upper) upper }
-    ensures { Climbs (λ x. sure pile.now x upper) 0 result }
+    requires { Within (A.sure pile.now upper upper) upper }
+    ensures { Climbs (λ x. A.sure pile.now x upper) 0 result }
 {
     let mut lower: Interpretation = 0;
     'climb: loop {
@@ -26,8 +26,8 @@ pub(crate) fn climb_lower<A: Approximator>(pile: &A, upper: Interpretation) -> I
 
 // The climb by may from the lower, over it.
 fn climb_upper<A: Approximator>(pile: &A, lower: Interpretation) -> Interpretation
-    requires { Within lower (may pile.now lower lower) }
-    ensures { Climbs (λ x. may pile.now lower x) lower result }
+    requires { Within lower (A.may pile.now lower lower) }
+    ensures { Climbs (λ x. A.may pile.now lower x) lower result }
 {
     let mut upper = lower;
     'climb: loop {

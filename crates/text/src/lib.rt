@@ -1,5 +1,7 @@
 // A sheet's text: which bytes may stand where, its lines and words with their spots, what a word says, and the names of atoms.
 // Nothing is copied: a word is a part of the text that is lent.
+#![tactic(auto)]
+
 pub mod bytes;
 pub mod check;
 pub mod names;

@@ -2,7 +2,7 @@ use Rattle.std.proofs.lemmas.Result.{MatchResult-weaker}
 use Rattle.approx.proofs.Laws.{Lawful}
 use Rattle.approx.proofs.Rounding.{settled_uncrossed}
 use Rattle.programs.specs.Programs.{program_meaning}
-use Rattle.programs.proofs.Obeying.{program_lawful}
+use Rattle.programs.specs.Obeying.{program_lawful}
 use Rattle.classics.proofs.Written.{sheets_normal}
 use Rattle.classics.proofs.Founding.{settled_well_founded}
 use Rattle.classics.proofs.models.well_founded_model.Goals as goal

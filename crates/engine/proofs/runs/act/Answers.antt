@@ -7,6 +7,6 @@ pub returns-in-Next : goal.returns-in-Next
 returns-in-Next g c =
     let p = vec_items c.args.tokens.now in
     record {
-      acts = subst (λ (v : Command). Acts g.A.Approximator v p p c.args.listing.now c.hand-out.new.listing (c.hand-out.result ∷ [])) (sym c.in-Next.is) (c.hand-out.ensures p);
+      acts = subst (λ (v : Command). Acts g.A.Approximator v p p c.args.listing.now c.hand_out.new.listing (c.hand_out.result ∷ [])) (sym c.in-Next.is) (c.hand_out.ensures p);
       room = search rules;
     }

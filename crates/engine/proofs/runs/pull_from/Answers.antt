@@ -12,8 +12,8 @@ returns-in-Err g c =
           (omega (arith, c.if-place-len.false, c.len.ensures, c.args.tokens.now.ok.0))
           c.remove-token.ensures.value
           (token_back _ t b c.in-Err.ensures.gives)
-          (c.push-reserved.ensures.items ∙ ap (λ l. l ++ b.token ∷ []) c.remove-token.ensures.items)
+          (c.push_reserved.ensures.items ∙ ap (λ l. l ++ b.token ∷ []) c.remove-token.ensures.items)
           (ap (λ (x : Listing g.row.A.Denot). x.pile) c.pull.ensures.leaves ∙ pull_pile _ c.args.listing.now t)
           c.in-Err.ensures.law;
-      room = record { taken = omega (arith, c.push-reserved.ensures.len, c.remove-token.ensures.len); places = omega (arith, c.push-reserved.ensures.capacity, c.remove-token.ensures.capacity) };
+      room = record { taken = omega (arith, c.push_reserved.ensures.len, c.remove-token.ensures.len); places = omega (arith, c.push_reserved.ensures.capacity, c.remove-token.ensures.capacity) };
     }

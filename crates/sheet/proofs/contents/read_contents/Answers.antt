@@ -11,12 +11,12 @@ returns-in-err-relays c =
     let l = c.in-ok-loads.ensures in
     let r = c.in-ok-rules.ensures in
     record {
-      gives = p.1 ∙ contents_fault (lines_left c.args.reader.now) (lines_left c.read-count.new.reader) (lines_left c.read-count-2.new.reader) (lines_left c.read-count-3.new.reader) m.leaves l.leaves r.leaves
+      gives = p.1 ∙ contents_fault (lines_left c.args.reader.now) (lines_left c.read_count.new.reader) (lines_left c.read_count-2.new.reader) (lines_left c.read_count-3.new.reader) m.leaves l.leaves r.leaves
           c.in-ok-marks.marks c.in-ok-loads.loads c.in-ok-rules.rules m.gives l.gives r.gives p.0 (ap Err p.2 ∙ c.in-err-relays.ensures.gives);
       leaves = IfOk-from_err c.from-residual-in-err-relays.result _ (ap is_err p.1);
       moves = IfOk-from_err c.from-residual-in-err-relays.result _ (ap is_err p.1);
       few = IfOk-from_err c.from-residual-in-err-relays.result _ (ap is_err p.1);
-      text = c.read-count-4.ensures.text ∙ c.read-count-3.ensures.text ∙ c.read-count-2.ensures.text ∙ c.read-count.ensures.text;
+      text = c.read_count-4.ensures.text ∙ c.read_count-3.ensures.text ∙ c.read_count-2.ensures.text ∙ c.read_count.ensures.text;
     }
 
 pub returns : goal.returns
@@ -26,11 +26,11 @@ returns c =
     let r = c.in-ok-rules.ensures in
     let y = c.in-ok-relays.ensures in
     record {
-      gives = contents_whole (lines_left c.args.reader.now) (lines_left c.read-count.new.reader) (lines_left c.read-count-2.new.reader) (lines_left c.read-count-3.new.reader) m.leaves l.leaves r.leaves
+      gives = contents_whole (lines_left c.args.reader.now) (lines_left c.read_count.new.reader) (lines_left c.read_count-2.new.reader) (lines_left c.read_count-3.new.reader) m.leaves l.leaves r.leaves
           c.in-ok-marks.marks c.in-ok-loads.loads c.in-ok-rules.rules m.gives l.gives r.gives c.in-ok-relays.relays y.gives;
-      leaves = left_after (lines_left c.args.reader.now) (lines_left c.read-count.new.reader) (lines_left c.read-count-2.new.reader) (lines_left c.read-count-3.new.reader) m.leaves l.leaves r.leaves (lines_left c.read-count-4.new.reader) y.leaves;
-      moves = moved_four (lines_left c.args.reader.now) (lines_left c.read-count.new.reader) (lines_left c.read-count-2.new.reader) (lines_left c.read-count-3.new.reader) m.leaves l.leaves r.leaves
-          c.args.reader.now.position c.read-count.new.reader.position c.read-count-2.new.reader.position c.read-count-3.new.reader.position c.read-count-4.new.reader.position m.moves l.moves r.moves y.moves;
+      leaves = left_after (lines_left c.args.reader.now) (lines_left c.read_count.new.reader) (lines_left c.read_count-2.new.reader) (lines_left c.read_count-3.new.reader) m.leaves l.leaves r.leaves (lines_left c.read_count-4.new.reader) y.leaves;
+      moves = moved_four (lines_left c.args.reader.now) (lines_left c.read_count.new.reader) (lines_left c.read_count-2.new.reader) (lines_left c.read_count-3.new.reader) m.leaves l.leaves r.leaves
+          c.args.reader.now.position c.read_count.new.reader.position c.read_count-2.new.reader.position c.read_count-3.new.reader.position c.read_count-4.new.reader.position m.moves l.moves r.moves y.moves;
       few = record { marks = m.few; loads = l.few; rules = r.few; relays = y.few };
-      text = c.read-count-4.ensures.text ∙ c.read-count-3.ensures.text ∙ c.read-count-2.ensures.text ∙ c.read-count.ensures.text;
+      text = c.read_count-4.ensures.text ∙ c.read_count-3.ensures.text ∙ c.read_count-2.ensures.text ∙ c.read_count.ensures.text;
     }

@@ -12,4 +12,4 @@ pub returns-in-Err : goal.returns-in-Err
 returns-in-Err c =
     wrong_here (rule_next (names_of c.args.names.text.now (take 64 c.args.names.places.now)) c.args.count) rule_done wrongs.Misplaced c.end-end.result states.Start c.words.state (words_left c.args.line) (words_left c.words.line)
     c.words.invariant (end_of (as_line c.args.line)) c.end-end.ensures (as_placed c.in-Some.piece) (words_left c.word.new.self) c.in-Some.ensures.gives
-    (said c.word-of.result) c.word-of.ensures c.in-Err.wrong c.in-Err.ensures c.at.result c.at.ensures
+    (said c.word_of.result) c.word_of.ensures c.in-Err.wrong c.in-Err.ensures c.at.result c.at.ensures

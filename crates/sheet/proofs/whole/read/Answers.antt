@@ -3,5 +3,5 @@ use Rattle.sheet.proofs.whole.read.Goals as goal
 
 pub returns : goal.returns
 returns c =
-    let e = c.read-into.ensures in
-    record { answers = e.answers; holds = e.holds; rightly = rightly c.args.text.now c.args.table.now c.read-into.new.table c.read-into.result e.holds e.answers }
+    let e = c.read_into.ensures in
+    record { answers = e.answers; holds = e.holds; rightly = rightly c.args.text.now c.args.table.now c.read_into.new.table c.read_into.result e.holds e.answers }

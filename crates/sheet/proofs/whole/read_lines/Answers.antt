@@ -19,22 +19,22 @@ returns-then-lines-announced c =
     let ls = opened c.new-reader.result c.args.text.now c.new-reader.ensures.text c.new-reader.ensures.position c.new-reader.ensures.lines c.requires in
     count_wrong c.args.text.now (lines_of c.args.text.now) c.in-ok-contents.contents
     (kept_from c.in-ok-contents.contents (contents_read (lines_of c.args.text.now)) (c.in-ok-contents.ensures.gives ∙ ap (λ x. kept_contents (contents_read x)) ls))
-    c.count-lines-lines.result c.count-lines-lines.ensures (λ q. c.if-lines-announced.true (q ∙ sym c.announced.ensures))
+    c.count_lines-lines.result c.count_lines-lines.ensures (λ q. c.if-lines-announced.true (q ∙ sym c.announced.ensures))
 
-pub read-bodies-requires : goal.read-bodies-requires
-read-bodies-requires c =
+pub read_bodies-requires : goal.read_bodies-requires
+read_bodies-requires c =
     let ls = opened c.new-reader.result c.args.text.now c.new-reader.ensures.text c.new-reader.ensures.position c.new-reader.ensures.lines c.requires in
     record {
       few = c.in-ok-contents.ensures.few;
-      all = omega (arith, ap length c.in-ok-contents.ensures.leaves, length-drop 4 (lines_left c.new-reader.result), ap length ls, c.count-lines-lines.ensures, c.announced.ensures);
+      all = omega (arith, ap length c.in-ok-contents.ensures.leaves, length-drop 4 (lines_left c.new-reader.result), ap length ls, c.count_lines-lines.ensures, c.announced.ensures);
     }
 
 pub returns : goal.returns
 returns c =
     let ls = opened c.new-reader.result c.args.text.now c.new-reader.ensures.text c.new-reader.ensures.position c.new-reader.ensures.lines c.requires in
-    let same : length (lines_of c.args.text.now) ≡ announced_in c.in-ok-contents.contents = sym c.count-lines-lines.ensures ∙ c.if-lines-announced.false ∙ c.announced.ensures in
+    let same : length (lines_of c.args.text.now) ≡ announced_in c.in-ok-contents.contents = sym c.count_lines-lines.ensures ∙ c.if-lines-announced.false ∙ c.announced.ensures in
     count_right c.args.text.now (lines_of c.args.text.now) c.in-ok-contents.contents
     (kept_from c.in-ok-contents.contents (contents_read (lines_of c.args.text.now)) (c.in-ok-contents.ensures.gives ∙ ap (λ x. kept_contents (contents_read x)) ls))
-    same (lines_left c.read-contents.new.reader) (c.in-ok-contents.ensures.leaves ∙ ap (drop 4) ls) c.read-contents.new.reader.position
+    same (lines_left c.read_contents.new.reader) (c.in-ok-contents.ensures.leaves ∙ ap (drop 4) ls) c.read_contents.new.reader.position
     (c.in-ok-contents.ensures.moves ∙ ap (λ (n : ℕ). past_lines n (take 4 (lines_left c.new-reader.result))) c.new-reader.ensures.position ∙ ap (λ (x : List Numbered). past_lines 0 (take 4 x)) ls)
-    c.read-bodies.result c.read-bodies.ensures
+    c.read_bodies.result c.read_bodies.ensures

@@ -1,5 +1,5 @@
 use Rattle.atoms.specs.Bounded.{open_count}
 use Rattle.solver.proofs.search.+add_up.Given as goal
 
-abbrev pub decreases-add-up : goal.decreases-add-up
-decreases-add-up g l = open_count l.bounds
+abbrev pub decreases-add_up : goal.decreases-add_up
+decreases-add_up g l = open_count l.bounds

@@ -22,7 +22,7 @@ pub climb-smaller : goal.climb-smaller
 climb-smaller g c =
     let fits : c.args.bounds.lower < 2 ^ 64 = omega arith in
     ground_less (laws g c.args.pile.now) c.args.bounds c.climb.invariant
-    (c.may.ensures (within_mod (g.A.Approximator.width c.args.pile.now) c.climb.invariant.over)) fits c.may.type-inv c.if-next-reach.false
+    (c.may.ensures (within_mod (g.A.Approximator.width c.args.pile.now) c.climb.invariant.over)) fits c.may.type_inv c.if-next-reach.false
 
 pub returns-then-next-reach : goal.returns-then-next-reach
 returns-then-next-reach g c =

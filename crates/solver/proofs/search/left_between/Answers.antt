@@ -5,23 +5,23 @@ use Rattle.approx.specs.Meanings.{meaning}
 use Rattle.solver.proofs.Parting.{crossed_leaves, closed_one, closed_none, parts}
 use Rattle.solver.proofs.search.left_between.Goals as goal
 
-pub returns-then-not-is-proper : goal.returns-then-not-is-proper
-returns-then-not-is-proper g c = crossed_leaves (λ p. false≢true (c.if-not-is-proper.ensures.1 p))
+pub returns-then-not-is_proper : goal.returns-then-not-is_proper
+returns-then-not-is_proper g c = crossed_leaves (λ p. false≢true (c.if-not-is_proper.ensures.1 p))
 
-pub returns-then-is-stable : goal.returns-then-is-stable
-returns-then-is-stable g c =
+pub returns-then-is_stable : goal.returns-then-is_stable
+returns-then-is_stable g c =
     let fits : c.args.bounds.upper < 2 ^ 64 = omega arith in
-    closed_one {m = meaning g.A.Approximator c.args.pile.now} fits (sym c.open-atoms.ensures ∙ c.in-None.ensures) (c.if-not-is-proper.ensures.0 refl) (c.if-is-stable.ensures.0 refl)
+    closed_one {m = meaning g.A.Approximator c.args.pile.now} fits (sym c.open_atoms.ensures ∙ c.in-None.ensures) (c.if-not-is_proper.ensures.0 refl) (c.if-is_stable.ensures.0 refl)
 
-pub returns-else-is-stable : goal.returns-else-is-stable
-returns-else-is-stable g c =
+pub returns-else-is_stable : goal.returns-else-is_stable
+returns-else-is_stable g c =
     let fits : c.args.bounds.upper < 2 ^ 64 = omega arith in
-    closed_none {m = meaning g.A.Approximator c.args.pile.now} fits (sym c.open-atoms.ensures ∙ c.in-None.ensures) (λ s. false≢true (c.if-is-stable.ensures.1 s))
+    closed_none {m = meaning g.A.Approximator c.args.pile.now} fits (sym c.open_atoms.ensures ∙ c.in-None.ensures) (λ s. false≢true (c.if-is_stable.ensures.1 s))
 
 pub returns-in-Some : goal.returns-in-Some
 returns-in-Some g c =
     let b = c.args.bounds in
     let fits : b.upper < 2 ^ 64 = omega arith in
     let found = c.in-Some.ensures in
-    parts b c.pegged.result c.pegged-in-Some.result fits (c.if-not-is-proper.ensures.0 refl) found.0
-    (subst (λ (s : ℕ). Lowest s c.in-Some.atom) c.open-atoms.ensures found.1) c.only-chosen.ensures c.pegged.ensures.holds c.pegged-in-Some.ensures.holds
+    parts b c.pegged.result c.pegged-in-Some.result fits (c.if-not-is_proper.ensures.0 refl) found.0
+    (subst (λ (s : ℕ). Lowest s c.in-Some.atom) c.open_atoms.ensures found.1) c.only-chosen.ensures c.pegged.ensures.holds c.pegged-in-Some.ensures.holds

@@ -4,9 +4,9 @@ use Rattle.approx.specs.Settling.{Rounds, begins, goes_on}
 use Rattle.solver.proofs.settling.bounds_after.Goals as goal
 
 pub loop-round-init : goal.loop-round-init
-loop-round-init g c = let m = meaning g.A.Approximator c.args.pile.now in subst (Rounds m 0) (sym c.first-bounds-bounds.ensures) begins
+loop-round-init g c = let m = meaning g.A.Approximator c.args.pile.now in subst (Rounds m 0) (sym c.first_bounds-bounds.ensures) begins
 
 pub loop-round-preserved : goal.loop-round-preserved
 loop-round-preserved g c =
     let m = meaning g.A.Approximator c.args.pile.now in
-    subst (λ (n : ℕ). Rounds m n c.next-bounds-bounds.result) (sym (add-one c.loop-round.-round)) (goes_on c.loop-round.invariant c.next-bounds-bounds.ensures)
+    subst (λ (n : ℕ). Rounds m n c.next_bounds-bounds.result) (sym (add-one c.loop-round._round)) (goes_on c.loop-round.invariant c.next_bounds-bounds.ensures)

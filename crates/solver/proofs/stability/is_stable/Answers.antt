@@ -16,6 +16,6 @@ returns-then-sure-z g c =
     let m = meaning g.A.Approximator c.args.pile.now in
     let z : ℕ = c.args.z in
     let fixed : m.sure z z ≡ z = sym (c.sure.ensures (within_refl _)) ∙ c.if-sure-z.true in (
-      (λ t. climb_stable (laws g c.args.pile.now) fixed (subst (Climbs (λ x. m.sure x z) 0) (eqb-true c.climb-lower.result z t) c.climb-lower.ensures)),
-      (λ s. eq-eqb c.climb-lower.result z (stable_climb (laws g c.args.pile.now) s c.climb-lower.ensures)),
+      (λ t. climb_stable (laws g c.args.pile.now) fixed (subst (Climbs (λ x. m.sure x z) 0) (eqb-true c.climb_lower.result z t) c.climb_lower.ensures)),
+      (λ s. eq-eqb c.climb_lower.result z (stable_climb (laws g c.args.pile.now) s c.climb_lower.ensures)),
     )

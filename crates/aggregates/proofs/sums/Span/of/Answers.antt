@@ -6,22 +6,10 @@ use Rattle.aggregates.proofs.sums.Span.of.Goals as goal
 pub loop-entry-init : goal.loop-entry-init
 loop-entry-init c = (summed_start _ _, summed_start _ _)
 
-pub overflow-add-low : goal.overflow-add-low
-overflow-add-low c =
-    let rows : length c.args.entries.items ≤ 16 = omega arith in
-    let fits : SFits w16 c.of-share.result.least = search rules in
-    summed_fits _ _ _ _ c.of-share.result.least fits c.loop-entry-test.true (few_entries c.args.entries rows c.as-slice-entry-items.ensures) c.loop-entry.invariant.0
-
-pub overflow-add-high : goal.overflow-add-high
-overflow-add-high c =
-    let rows : length c.args.entries.items ≤ 16 = omega arith in
-    let fits : SFits w16 c.of-share.result.most = search rules in
-    summed_fits _ _ _ _ c.of-share.result.most fits c.loop-entry-test.true (few_entries c.args.entries rows c.as-slice-entry-items.ensures) c.loop-entry.invariant.1
-
 pub loop-entry-preserved : goal.loop-entry-preserved
 loop-entry-preserved c =
     let rows : length c.args.entries.items ≤ 16 = omega arith in
-    let few = few_entries c.args.entries rows c.as-slice-entry-items.ensures in
+    let few = few_entries c.args.entries rows c.as_slice-entry-items.ensures in
     let low_fits : SFits w16 c.of-share.result.least = search rules in
     let high_fits : SFits w16 c.of-share.result.most = search rules in (
       summed_turn _ _ _ _ c.of-share.result.least low_fits _ c.loop-entry-test.true few c.of-share.ensures.least c.loop-entry.invariant.0,
@@ -33,6 +21,6 @@ returns c =
     let l = c.args.bounds.lower in
     let u = c.args.bounds.upper in
     record {
-      low = summed_end c.loop-entry.invariant.0 c.loop-entry-test.false ∙ ap (λ es. low_sum es l u) c.as-slice-entry-items.ensures;
-      high = summed_end c.loop-entry.invariant.1 c.loop-entry-test.false ∙ ap (λ es. high_sum es l u) c.as-slice-entry-items.ensures;
+      low = summed_end c.loop-entry.invariant.0 c.loop-entry-test.false ∙ ap (λ es. low_sum es l u) c.as_slice-entry-items.ensures;
+      high = summed_end c.loop-entry.invariant.1 c.loop-entry-test.false ∙ ap (λ es. high_sum es l u) c.as_slice-entry-items.ensures;
     }

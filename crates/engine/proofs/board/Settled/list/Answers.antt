@@ -19,7 +19,7 @@ returns g c =
     let s = c.args.self in
     let made : Pegs → Listing g.row.A.Denot = λ p. record { pile = s.pile; bounds = s.bounds; pegs = p; last = None } in
     let e : c.none.result ≡ no_pegs = c.none.ensures in
-    let few : open_count s.bounds ≤ 16 = subst (λ n. n ≤ 16) c.open-count-open.ensures c.if-open-gt-MOST-OPEN.false in
+    let few : open_count s.bounds ≤ 16 = subst (λ n. n ≤ 16) c.open_count-open.ensures c.if-open-gt-MOST_OPEN.false in
     record {
       gives = cond_above 16 (open_count s.bounds) _ _ _ few (ap (λ p. Ok (made p)) e);
       law = λ settles. subst (λ p. Ran g.A.Approximator [] (made p)) (sym e) (fresh_ran g.A.Approximator s (laws g s.pile) settles few);

@@ -47,6 +47,6 @@ returns g c =
     let small : i < 64 = omega (arith, c.if-atom-width.false, c.width.ensures, (g.met.A.Approximator.wide x.pile).1) in
     record {
       gives = ap (λ f. peg_gives f i s) (sym e);
-      leaves = c.begin-anew.ensures ∙ ap (begun x) c.with.ensures.is ∙ ap (λ f. peg_leaves f x i s) (sym e);
-      law = λ h ran. subst (Ran G (Pegged i s ∷ h)) (sym c.begin-anew.ensures) (peg_granted G x (laws g x.pile) h ran i s c.with.result e (c.with.ensures.holds small));
+      leaves = c.begin_anew.ensures ∙ ap (begun x) c.with.ensures.is ∙ ap (λ f. peg_leaves f x i s) (sym e);
+      law = λ h ran. subst (Ran G (Pegged i s ∷ h)) (sym c.begin_anew.ensures) (peg_granted G x (laws g x.pile) h ran i s c.with.result e (c.with.ensures.holds small));
     }

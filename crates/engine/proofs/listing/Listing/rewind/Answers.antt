@@ -14,6 +14,6 @@ pub returns : goal.returns
 returns g c =
     let x = c.args.self.now in
     record {
-      leaves = c.begin-anew.ensures;
-      law = λ h ran. subst (Ran g.A.Approximator (Rewound ∷ h)) (sym c.begin-anew.ensures) (rewind_ran g.A.Approximator x (laws g x.pile) h ran);
+      leaves = c.begin_anew.ensures;
+      law = λ h ran. subst (Ran g.A.Approximator (Rewound ∷ h)) (sym c.begin_anew.ensures) (rewind_ran g.A.Approximator x (laws g x.pile) h ran);
     }

@@ -16,7 +16,7 @@ pub returns : goal.returns
 returns g c =
     let G = g.A.Approximator in
     let x = c.args.self.now in
-    let pegs = c.pegged-bounds.ensures in
+    let pegs = c.pegged_bounds.ensures in
     let counted : Listable G x → Counted (Wanted (meaning G x.pile) x.pegs.on x.pegs.off) c.count.result =
     λ l. wanted_counted pegs (stable_inside G x (laws g x.pile) l) (c.count.ensures.exact (omega (arith, pegs.no_more_open, l.few))) in
     record { gives = counted; law = λ h ran. tally_ran G x (laws g x.pile) h ran c.count.result (counted ran.listable) }

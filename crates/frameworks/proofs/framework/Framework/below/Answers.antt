@@ -7,5 +7,5 @@ use Rattle.frameworks.proofs.framework.Framework.below.Goals as goal
 pub returns : goal.returns
 returns c =
     let w = width_of c.args.self.now in
-    let e : min c.atom-count.result 64 ≡ w = omega (arith, c.atom-count.ensures) in
+    let e : min c.atom_count.result 64 ≡ w = omega (arith, c.atom_count.ensures) in
     ap (bit_and c.args.set) (c.full.ensures ∙ ap all_below e) ∙ and_mask c.args.set w

@@ -1,4 +1,4 @@
-use Rattle.layers.proofs.Tripping.{dropped_is}
+use Rattle.layers.specs.Tripping.{dropped_is}
 use Rattle.layers.proofs.cut_out.CutOut.dropped.Goals as goal
 
 pub returns : goal.returns

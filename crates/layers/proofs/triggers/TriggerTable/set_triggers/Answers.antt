@@ -1,5 +1,5 @@
 use Rattle.std.proofs.Common.{◌≤◌, length, sym, arith}
-use Rattle.layers.proofs.Tripping.{triggers_past}
+use Rattle.layers.specs.Tripping.{triggers_past}
 use Rattle.layers.proofs.triggers.TriggerTable.set_triggers.Goals as goal
 
 pub returns-else-atom-lt64 : goal.returns-else-atom-lt64

@@ -3,7 +3,7 @@ use lib.Bits.{bit_or}
 use Rattle.atoms.specs.Sets.{Has}
 use Rattle.atoms.proofs.Collecting.{collected_none, collected_more}
 use Rattle.layers.specs.Triggers.{trips, tripped}
-use Rattle.layers.proofs.Tripping.{tripped_has, tripped_all}
+use Rattle.layers.specs.Tripping.{tripped_has, tripped_all}
 use Rattle.layers.proofs.triggers.TriggerTable.tripped.Goals as goal
 
 pub loop-atom-init : goal.loop-atom-init

@@ -1,7 +1,7 @@
 use Rattle.std.proofs.Common.{sym, subst}
 use Rattle.programs.specs.Programs.{SurelyFollow, below_width}
-use Rattle.programs.proofs.Following.{derived_follows}
-use Rattle.programs.proofs.Obeying.{found}
+use Rattle.programs.specs.Following.{derived_follows}
+use Rattle.programs.specs.Obeying.{found}
 use Rattle.programs.proofs.program.RuleProgram.sure_heads.Goals as goal
 
 pub returns : goal.returns

@@ -8,6 +8,6 @@ pub returns : goal.returns
 returns c =
     let w = width_of c.args.self.now in
     let b = c.args.bounds in
-    let e : min c.atom-count.result 64 ≡ w = omega (arith, c.atom-count.ensures) in
+    let e : min c.atom_count.result 64 ≡ w = omega (arith, c.atom_count.ensures) in
     let m = c.full-atoms.ensures ∙ ap all_below e in
     ap₂ (λ (l u : ℕ). record { lower = l; upper = u }) (ap (bit_and b.lower) m ∙ and_mask b.lower w) (ap (bit_and b.upper) m ∙ and_mask b.upper w)

@@ -16,7 +16,7 @@ use Rattle.programs.specs.Tables.{width_of, clauses_of, aggregates_of}
 use Rattle.programs.specs.Deriving.{fires, gives, derived, passes, passing, Follows, JustWhatFollows}
 use Rattle.programs.specs.declared.clause.Clause.{Clause}
 use Rattle.programs.specs.declared.rules.RuleTable.{RuleTable}
-use Rattle.programs.proofs.Gathering.{union_in, union_from, alone_in, alone_from}
+use Rattle.programs.specs.Gathering.{union_in, union_from, alone_in, alone_from}
 
 -- ---- one rule
 pub record Fires (held possible holding : ℕ) (c : Clause) : Type 0 where

@@ -15,7 +15,7 @@ use Rattle.programs.specs.Deriving.{derived, passing}
 use Rattle.programs.specs.Programs.{Verdict, surely, perhaps, below_width, table_meaning, program_meaning}
 use Rattle.programs.specs.declared.program.RuleProgram.{RuleProgram}
 use Rattle.programs.specs.declared.rules.RuleTable.{RuleTable}
-use Rattle.programs.proofs.Following.{derived_up, derived_below, passing_up}
+use Rattle.programs.specs.Following.{derived_up, derived_below, passing_up}
 
 -- what the laws of a reading say of its verdicts
 record Honest (sure may : Verdict) : Type 0 where

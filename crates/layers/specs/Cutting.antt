@@ -11,7 +11,7 @@ use Rattle.approx.proofs.Laws.{Lawful}
 use Rattle.layers.specs.Triggers.{trips, tripped}
 use Rattle.layers.specs.CutOuts.{dropped, cut_out}
 use Rattle.layers.specs.declared.triggers.TriggerTable.{TriggerTable}
-use Rattle.layers.proofs.Tripping.{tripped_up}
+use Rattle.layers.specs.Tripping.{tripped_up}
 
 module _ (t : TriggerTable) {m : Meaning} (laws : Lawful m) where
   small : {s : ℕ} → s < 2 ^ m.width → s < 2 ^ 64
