@@ -1,6 +1,7 @@
 // The boards, as types that move: what is read is settled, by any approximator, what is settled is listed, and a refusal
 // hands back what it was given.
 #![tactic(auto)]
+
 mod board;
 mod listing;
 mod pegs;

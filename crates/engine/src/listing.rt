@@ -144,8 +144,8 @@ impl<A: Approximator> Listing<A> {
 
     // Pegs the atom and begins anew; or says why not.
     pub fn peg(&mut self, atom: u8, sense: Sense) -> Result<Token, BenchFault>
-        ensures gives { result ≡ peg_gives (peg_fault (width self.old.pile) (standing self.old.pegs) atom) atom sense }
-        ensures leaves { self.new ≡ peg_leaves (peg_fault (width self.old.pile) (standing self.old.pegs) atom) self.old atom sense }
+        ensures gives { result ≡ peg_gives (peg_fault (A.width self.old.pile) (standing self.old.pegs) atom) atom sense }
+        ensures leaves { self.new ≡ peg_leaves (peg_fault (A.width self.old.pile) (standing self.old.pegs) atom) self.old atom sense }
         ensures law { (h : History) → Ran A.Approximator h self.old → Ran A.Approximator (peg_event atom sense result ∷ h) self.new }
     {
         if atom >= self.pile.width() {

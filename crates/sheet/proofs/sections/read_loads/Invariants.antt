@@ -7,4 +7,4 @@ use Rattle.sheet.proofs.Sectioning.{SectionWay}
 use Rattle.sheet.proofs.sections.read_loads.Given as goal
 
 abbrev pub invariant-section : goal.invariant-section
-invariant-section l = SectionWay (load_read (names_of l.names.text.now (take 64 l.names.places.now))) 32 zero_aggregate l.count (lines_left l.initial.reader) l.-n l.rows (lines_left l.reader)
+invariant-section l = SectionWay (load_read (names_of l.names.text.now (take 64 l.names.places.now))) 32 zero_aggregate l.count (lines_left l.initial.reader) l._n l.rows (lines_left l.reader)

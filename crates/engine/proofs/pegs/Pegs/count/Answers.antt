@@ -3,8 +3,8 @@ use lib.Count.{ones, ones-le}
 use Rattle.atoms.proofs.Collecting.{ones_how_many}
 use Rattle.engine.proofs.pegs.Pegs.count.Goals as goal
 
-pub overflow-add-result : goal.overflow-add-result
-overflow-add-result c =
+pub overflow_add-result : goal.overflow_add-result
+overflow_add-result c =
     let p : ones c.args.self.on ≤ 64 = ones-le 64 c.args.self.on (omega arith) in
     let q : ones c.args.self.off ≤ 64 = ones-le 64 c.args.self.off (omega arith) in
     omega arith
