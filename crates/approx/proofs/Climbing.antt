@@ -1,5 +1,5 @@
 -- Climbs rise, stay inside and have one end; the climb of sure from no atom is the least that sure keeps.
-use Rattle.std.proofs.Common.{◌≡◌, ℕ, ◌<◌, sym, refl, ◌∙◌, subst, arith}
+use Rattle.std.proofs.Common.{◌≡◌, ℕ, ◌<◌, sym, refl, ◌∙◌, subst}
 use Rattle.atoms.specs.Sets.{Within}
 use Rattle.atoms.proofs.Inclusion.{within_refl, within_trans, zero_within, within_eq, within_lt}
 use Rattle.approx.specs.Meanings.{Meaning}

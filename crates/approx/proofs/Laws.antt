@@ -1,5 +1,5 @@
 -- The laws of one meaning, freed of their premises on the width: what the theory works from.
-use Rattle.std.proofs.Common.{◌≡◌, ℕ, ◌%◌, ◌^◌, ◌<◌, ◌≤◌, sym, ◌∙◌, subst, mod-lt, pow_pos}
+use Rattle.std.proofs.Common.{◌≡◌, ℕ, ◌^◌, ◌<◌, ◌≤◌, sym, ◌∙◌, subst, mod-lt, pow_pos}
 use Rattle.atoms.specs.Sets.{Within, clipped}
 use Rattle.atoms.proofs.Inclusion.{within_refl, within_trans, within_eq, within_mod}
 use Rattle.approx.specs.Meanings.{Meaning, meaning}

@@ -1,12 +1,12 @@
 -- The rounds of settling: the bounds narrow, are never crossed, rest somewhere, and rest at one place only.
-use Rattle.std.proofs.Common.{◌≡◌, ℕ, suc, ◌+◌, ◌-◌, ◌^◌, ◌<◌, ◌≤◌, ◌⊎◌, sym, refl, ap, ◌∙◌, subst, ap₂, inl, inr, arith}
+use Rattle.std.proofs.Common.{◌≡◌, ℕ, suc, ◌+◌, ◌-◌, ◌^◌, ◌<◌, sym, refl, subst, ap₂, inl, inr, arith}
 use Rattle.std.proofs.lemmas.Bool.{cases_eq, cases_lt}
 use Rattle.atoms.specs.Sets.{Within, all_below}
 use Rattle.atoms.specs.Bounded.{Proper}
 use Rattle.atoms.specs.declared.bounds.Bounds.{Bounds}
 use Rattle.atoms.proofs.Inclusion.{within_refl, within_trans, zero_within, within_eq, within_le, below_within}
 use Rattle.approx.specs.Meanings.{Meaning}
-use Rattle.approx.specs.Settling.{Climbs, first_bounds, NextBounds, Rounds, begins, goes_on, Moving, Settles, Crosses}
+use Rattle.approx.specs.Settling.{first_bounds, NextBounds, Rounds, begins, goes_on, Moving, Settles, Crosses}
 use Rattle.approx.proofs.Laws.{Lawful}
 use Rattle.approx.proofs.Climbing as climbing
 

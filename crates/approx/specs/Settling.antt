@@ -1,5 +1,5 @@
 -- What settling comes to: the sequence of bounds, and where it rests.
-use Rattle.std.specs.Prelude.{◌≡◌, ℕ, suc, ◌<◌, ◌≤◌, ◌≢◌}
+use Rattle.std.specs.Prelude.{◌≡◌, ℕ, suc, ◌<◌, ◌≢◌}
 use Rattle.atoms.specs.Sets.{all_below}
 use Rattle.atoms.specs.Bounded.{Proper}
 use Rattle.atoms.specs.declared.bounds.Bounds.{Bounds}

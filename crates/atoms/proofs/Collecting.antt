@@ -1,10 +1,10 @@
 -- The set of the atoms below a width that pass a test, and how many they are.
-use Rattle.std.proofs.Common.{◌≡◌, ℕ, zero, suc, ◌+◌, ◌/◌, ◌%◌, ◌^◌, ◌<◌, ◌≤◌, Bool, true, false, cond, eqb, ◌⊎◌, sym, refl, ap, ◌∙◌, subst, ap₂, inl, inr, pow-suc, add-one, arith, pow_pos}
+use Rattle.std.proofs.Common.{◌≡◌, ℕ, zero, suc, ◌+◌, ◌/◌, ◌%◌, ◌^◌, ◌<◌, ◌≤◌, Bool, true, false, cond, eqb, sym, refl, ap, ◌∙◌, subst, ap₂, inl, inr, pow-suc, add-one, arith, pow_pos}
 use lib.Bits.{bit_or, or_lt}
 use lib.Count.{ones, ones_step}
-use Rattle.std.proofs.lemmas.Bool.{cases_eq, cases_lt, cases_Bool, both_ways, false≢true, eq-eqb, ne_eqb, cond-true, cond-false}
+use Rattle.std.proofs.lemmas.Bool.{cases_eq, cases_Bool, both_ways, false≢true, eq-eqb, ne_eqb, cond-true, cond-false}
 use Rattle.atoms.specs.Sets.{digit, Has, has, collected, how_many}
-use Rattle.atoms.proofs.Digits.{ext, digit_of_zero, digit_zero, digit_suc, has_or_lacks, has_or_l, has_or_r, has_or_cases, lacks_not, lacks_from, low_digit, pow_has, pow_only, same_digit}
+use Rattle.atoms.proofs.Digits.{ext, digit_of_zero, digit_zero, digit_suc, has_or_lacks, has_or_l, has_or_r, has_or_cases, lacks_not, pow_has, pow_only, same_digit}
 use Rattle.atoms.proofs.Counting.{ones_zero}
 
 -- ---- the atoms that pass

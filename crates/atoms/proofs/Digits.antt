@@ -1,5 +1,5 @@
 -- The digits of sets, of unions, intersections and complements, and that sets with the same atoms are equal.
-use Rattle.std.proofs.Common.{◌≡◌, ℕ, zero, suc, ◌+◌, ◌-◌, ◌/◌, ◌%◌, ◌^◌, ◌<◌, ◌≤◌, Bool, true, false, cond, ◌⊎◌, sym, refl, ap, ◌∙◌, ap₂, inl, inr, lt_of_lt_of_le, mod-lt, mod-eq_of_lt, zero-lt-suc, pow-suc, one-add, arith, pow_pos, pow_mono, pow-add, shr-shr}
+use Rattle.std.proofs.Common.{◌≡◌, ℕ, zero, suc, ◌+◌, ◌-◌, ◌/◌, ◌%◌, ◌^◌, ◌<◌, ◌≤◌, ◌⊎◌, sym, refl, ap, ◌∙◌, ap₂, inl, inr, lt_of_lt_of_le, mod-lt, mod-eq_of_lt, zero-lt-suc, pow-suc, one-add, arith, pow_pos, pow_mono, pow-add, shr-shr}
 use native.Mathlib.Nat.{mul-mod_right, div-eq_of_lt}
 use lib.Arith.{bin_ind}
 use lib.Bits.{bit_and, bit_or, bit_xor, and_shr, or_shr, xor_shr, and_mod, or_mod, xor_mod}

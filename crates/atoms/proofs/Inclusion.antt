@@ -1,8 +1,8 @@
 -- Within is an order; unions are the least above, intersections the greatest below.
-use Rattle.std.proofs.Common.{◌≡◌, ℕ, suc, ◌-◌, ◌/◌, ◌%◌, ◌^◌, ◌<◌, ◌≤◌, ◌⊎◌, sym, refl, ap, ◌∙◌, subst, inl, inr, mod-lt, mod-eq_of_lt, arith, pow_pos}
+use Rattle.std.proofs.Common.{◌≡◌, ℕ, suc, ◌-◌, ◌/◌, ◌%◌, ◌^◌, ◌<◌, ◌≤◌, sym, ◌∙◌, subst, inl, inr, mod-lt, mod-eq_of_lt, arith, pow_pos}
 use lib.Bits.{bit_and, bit_or, and_le_r, and_mask}
 use Rattle.std.proofs.lemmas.Bool.{cases_lt}
-use Rattle.atoms.specs.Sets.{digit, Has, Within, clipped}
+use Rattle.atoms.specs.Sets.{Has, Within, clipped}
 use Rattle.atoms.proofs.Digits.{ext, same_digit, lacks_not, digit_of_zero, digit_zero, digit_suc, has_or_lacks, has_and, has_and_l, has_and_r, has_or_l, has_or_r, has_or_cases, mod_digit, low_digit, pow_only, mod_mod_wide}
 
 -- ---- Within is an order

@@ -1,6 +1,6 @@
 -- Bounds: what is on, off and open between a lower and an upper interpretation.
 use Rattle.std.specs.Prelude.{ℕ, Bool, cond, not, ◌&&◌}
-use Rattle.atoms.specs.Sets.{has, Within, how_many, lacking}
+use Rattle.atoms.specs.Sets.{has, Within, how_many}
 use Rattle.atoms.specs.declared.bounds.Bounds.{Bounds}
 use Rattle.atoms.specs.declared.bounds.State.{State}
 use Rattle.atoms.specs.declared.bounds.State.TheVariants.{On, Off, Open}

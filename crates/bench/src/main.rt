@@ -1,5 +1,6 @@
 // The bench: reads a sheet on standard input and prints its whole answer, or its refusal and nothing else.
 #![tactic(auto)]
+
 use report::print_answer;
 use std::io;
 use std::io::Read;

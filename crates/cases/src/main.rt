@@ -2,6 +2,7 @@
 // implementation, in oracle/. A case is its length in decimal, a newline, and so
 // many bytes.
 #![tactic(auto)]
+
 use report::print_answer;
 use std::{fs, io};
 

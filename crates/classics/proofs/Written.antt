@@ -1,20 +1,18 @@
 -- The rules that an accepted text writes name marks below the width only.
-use Rattle.std.proofs.Common.{◌≡◌, ℕ, ◌<◌, ◌≤◌, min, max, ◌⊎◌, List, [], ◌∷◌, map, length, sym, refl, ap, ◌∙◌, subst, inl, inr, arith}
+use Rattle.std.proofs.Common.{◌≡◌, ℕ, List, [], ◌∷◌, map, length, sym, ap, ◌∙◌, subst, inl, inr, arith}
 use Rattle.std.specs.List.{AllByRecursion as All}
 use Rattle.tables.specs.declared.table.Item.{Item}
 use Rattle.tables.specs.declared.table.Item.TheVariants.{Atom, NotAtom, Aggregate}
 use Rattle.tables.specs.declared.table.Rule.{Rule}
-use Rattle.tables.specs.declared.table.Table.{Table}
 use Rattle.tables.specs.Tables.{zero_item, zero_rule}
 use Rattle.tables.proofs.Laid.{in_use_laid}
 use Rattle.programs.specs.Clauses.{Among, items_of}
 use Rattle.programs.specs.Normal.{NormalItem, NormalRule, NormalSheet}
-use Rattle.programs.specs.Tables.{rules_of, rule_table, width_read}
+use Rattle.programs.specs.Tables.{rules_of, width_read}
 use Rattle.programs.proofs.Naming.{table_normal}
-use Rattle.written.specs.Sheets.{RuleLine, Sheet, LawfulItem, LawfulRule, LawfulSheet}
-use Rattle.written.specs.Writing.{rule_row, table_for}
-use Rattle.written.specs.Accepts.{Writes}
-use Rattle.classics.specs.Sheets.{Loadless, SheetsNormal}
+use Rattle.written.specs.Sheets.{RuleLine, Sheet, LawfulItem, LawfulRule}
+use Rattle.written.specs.Writing.{rule_row}
+use Rattle.classics.specs.Sheets.{SheetsNormal}
 
 -- a row among those of some lines is the row of a line of which the same holds
 row_of : (P : RuleLine → Type 0) (r : Rule) (lines : List RuleLine) → All P lines → Among r (map rule_row lines) → (line : RuleLine) × ((r ≡ rule_row line) × P line)

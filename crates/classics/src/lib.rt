@@ -1,5 +1,6 @@
 // The classical semantics: what is stable and what is settled here, as the literature defines it.
 #![tactic(auto)]
+
 mod extensions;
 mod models;
 

@@ -2,7 +2,7 @@
 use Rattle.std.specs.Prelude.{◌≡◌, ℕ}
 use Rattle.atoms.specs.Bounded.{Between}
 use Rattle.atoms.specs.declared.bounds.Bounds.{Bounds}
-use Rattle.approx.specs.Meanings.{Meaning, meaning}
+use Rattle.approx.specs.Meanings.{meaning}
 use Rattle.approx.specs.Stability.{Stable}
 use Rattle.approx.specs.Settling.{Settles, Crosses}
 use Rattle.approx.specs.declared.approximator.Approximator.{Ghosts}

@@ -1,5 +1,5 @@
 -- Relay lines: which atoms stand against a set.
-use Rattle.std.specs.Prelude.{ℕ, ◌^◌, Bool, ◌&&◌, set, replicate, ◌==◌, bit_and, bit_or, slice_index, slice_set}
+use Rattle.std.specs.Prelude.{ℕ, ◌^◌, Bool, ◌&&◌, replicate, ◌==◌, bit_and, bit_or, slice_index, slice_set}
 use Rattle.atoms.specs.Sets.{Has, has, Apart, clipped, collected}
 use Rattle.frameworks.specs.declared.table.RelayTable.{RelayTable}
 

@@ -1,11 +1,11 @@
 -- What stands against a set, and that less stands against more.
-use Rattle.std.specs.Prelude.{◌≡◌, ℕ, ◌%◌, ◌^◌, ◌<◌, ◌≤◌, true, ◌&&◌, List, length, ◌==◌, bit_and, bit_or}
+use Rattle.std.specs.Prelude.{◌≡◌, ℕ, ◌^◌, ◌<◌, ◌≤◌, true, List, length, ◌==◌, bit_and, bit_or}
 use Rattle.std.proofs.Common.{sym, ◌∙◌, ap, ap₂, arith}
 use Rattle.std.proofs.Math.Nat.{mod-mod}
 use Rattle.std.specs.Int.Bits.{or_zero_r}
 use Rattle.std.proofs.lemmas.List.{set_past}
 use Rattle.std.proofs.lemmas.Bool.{and_parts, and_from, eqb-true, eq-eqb}
-use Rattle.atoms.specs.Sets.{digit, Has, has, Within, clipped, collected}
+use Rattle.atoms.specs.Sets.{digit, Has, has, Within, clipped}
 use Rattle.atoms.proofs.Collecting.{collected_in, collected_from, collected_below}
 use Rattle.atoms.proofs.Digits.{pow_mod_zero}
 use Rattle.atoms.proofs.Inclusion.{within_mod}

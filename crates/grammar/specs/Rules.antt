@@ -1,5 +1,5 @@
 -- A rule line: a head alone, or a head, `if` and items.
-use Rattle.std.specs.Prelude.{ℕ, Bool, cond, List, [], length, Some, None, Ok, Err, Option, Result, ◌==◌}
+use Rattle.std.specs.Prelude.{ℕ, cond, List, [], length, Some, None, Ok, Err, Option, Result, ◌==◌}
 use Rattle.tables.specs.declared.table.Item.{Item}
 use Rattle.tables.specs.declared.table.Item.TheVariants as item
 use Rattle.tables.specs.declared.table.Rule.{Rule}

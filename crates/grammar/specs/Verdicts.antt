@@ -1,6 +1,5 @@
 -- The verdict on a text: the table that it fills, or its first fault.
 use Rattle.std.specs.Prelude.{ℕ, ◌+◌, cond, List, [], ◌∷◌, ◌++◌, length, take, drop, Ok, Err, codes, Result, ◌==◌}
-use Rattle.faults.specs.declared.Spot.{Spot}
 use Rattle.faults.specs.declared.SheetFault.{SheetFault}
 use Rattle.faults.specs.declared.SheetFault.TheVariants as fault
 use Rattle.faults.specs.declared.TextFault.{TextFault}

@@ -1,12 +1,11 @@
 -- A lawful meaning moved up is lawful, and in the room that it needs nothing of it is lost.
-use Rattle.std.proofs.Common.{◌≡◌, ℕ, ◌+◌, ◌*◌, ◌/◌, ◌%◌, ◌^◌, ◌<◌, ◌≤◌, min, sym, refl, ap, ◌∙◌, subst, ap₂, mod-lt, mod-eq_of_lt, add_comm, arith, pow_pos}
-use native.Mathlib.Nat.{mod-mod}
+use Rattle.std.proofs.Common.{◌≡◌, ℕ, ◌+◌, ◌*◌, ◌/◌, ◌%◌, ◌^◌, ◌<◌, ◌≤◌, min, sym, refl, ap, ◌∙◌, subst, ap₂, mod-eq_of_lt, add_comm, arith}
 use lib.Bits.{bit_and, and_mask}
 use Rattle.std.proofs.lemmas.Nat.{field_of, shl_below}
 use Rattle.atoms.specs.Sets.{Within, all_below, clipped}
 use Rattle.atoms.proofs.Digits.{mod_mod_wide}
 use Rattle.atoms.proofs.Inclusion.{within_mod}
-use Rattle.atoms.proofs.Moving.{within_down, within_up}
+use Rattle.atoms.proofs.Moving.{within_down}
 use Rattle.approx.specs.Meanings.{Meaning, meaning}
 use Rattle.approx.specs.declared.approximator.Approximator.{Ghosts}
 use Rattle.approx.proofs.Laws.{Lawful}

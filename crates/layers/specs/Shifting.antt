@@ -1,5 +1,5 @@
 -- A lawful meaning moved up is lawful.
-use Rattle.std.proofs.Common.{◌≡◌, ℕ, ◌/◌, ◌%◌, ◌*◌, ◌^◌, ◌<◌, ◌≤◌, sym, ap, ap₂, mod-lt, arith, pow_pos}
+use Rattle.std.proofs.Common.{◌≡◌, ℕ, ◌/◌, ◌*◌, ◌^◌, ◌<◌, ◌≤◌, sym, ap, ap₂, mod-lt, arith, pow_pos}
 use native.Mathlib.Nat.{mod-mod}
 use Rattle.atoms.specs.Sets.{Within, clipped}
 use Rattle.atoms.proofs.Inclusion.{within_mod}

@@ -1,5 +1,5 @@
 -- Triggers: which atoms a set trips.
-use Rattle.std.specs.Prelude.{ℕ, Bool, not, set, replicate, ◌==◌, bit_and, slice_index, slice_set}
+use Rattle.std.specs.Prelude.{ℕ, Bool, not, replicate, ◌==◌, bit_and, slice_index, slice_set}
 use Rattle.atoms.specs.Sets.{Has, collected}
 use Rattle.layers.specs.declared.triggers.TriggerTable.{TriggerTable}
 

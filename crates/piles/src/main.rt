@@ -1,6 +1,7 @@
 // Settles piles that no sheet makes: one three layers deep, a berth over a cut-out over two joined frameworks, at several
 // first places; and one rule whose load is judged by the plain and by the bound reading.
 #![tactic(auto)]
+
 use aggregates::{Bound, Plain, Reading};
 use engine::Board;
 use faults::BenchFault;

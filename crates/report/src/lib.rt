@@ -2,6 +2,7 @@
 // interpretation as a line `standing`, and their number; or the refusal. The rule part, by the bound reading, is joined
 // with the relay part.
 #![tactic(auto)]
+
 use aggregates::Bound;
 use atoms::{Bounds, Interpretation, State, has};
 use engine::{Board, Listing, Settled};

@@ -1,5 +1,5 @@
 -- The contents as their four lines are read one after another.
-use Rattle.std.proofs.Common.{◌≡◌, ℕ, zero, suc, ◌≤◌, ◌&&◌, leb, List, [], ◌∷◌, take, drop, ℤ, pos, negsuc, Some, None, Ok, Err, codes, Option, Result, sym, refl, ap, ◌∙◌, subst, ap₂, inl, inr, arith}
+use Rattle.std.proofs.Common.{◌≡◌, ℕ, zero, suc, ◌≤◌, ◌&&◌, leb, List, [], ◌∷◌, take, drop, ℤ, pos, negsuc, Some, None, Ok, Err, codes, Option, sym, refl, ap, ◌∙◌, subst, ap₂, inl, inr, arith}
 use Rattle.std.specs.Str.{bytes_eq}
 use Rattle.std.proofs.lemmas.Bool.{cases_Bool, cond-true, cond-false, leb-true, and_parts}
 use Rattle.std.proofs.lemmas.List.{drop-drop}
@@ -12,9 +12,8 @@ use Rattle.grammar.specs.Counts.{worded, count_next}
 use Rattle.grammar.specs.Said.{natural_in, natural_said}
 use Rattle.grammar.specs.Wrongs.{or_wrong}
 use Rattle.text.specs.Words.{Meaning, a_name, a_number, a_key, nothing, name_said}
-use Rattle.grammar.specs.Verdicts.{past_lines, Counts, onward, count_read, contents_read}
+use Rattle.grammar.specs.Verdicts.{past_lines, onward, count_read, contents_read}
 use Rattle.sheet.specs.Sections.{kept_contents}
-use Rattle.sheet.specs.declared.contents.Contents.{Contents}
 
 -- a number that is counted is not above its limit
 abbrev pub WithinHigh : ℕ → CountState → Type 0

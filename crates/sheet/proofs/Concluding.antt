@@ -1,12 +1,12 @@
 -- From the contents and the number of lines to the whole verdict on the lines.
-use Rattle.std.proofs.Common.{◌≡◌, ℕ, ◌+◌, cond, eqb, List, [], length, take, drop, Ok, Err, Result, sym, refl, ap, ◌∙◌, ap₂, arith}
+use Rattle.std.proofs.Common.{◌≡◌, ℕ, cond, List, [], length, take, drop, Ok, Err, Result, sym, ap, ◌∙◌, ap₂, arith}
 use Rattle.std.proofs.lemmas.List.{drop-drop}
 use Rattle.std.proofs.lemmas.Bool.{eq-eqb, ne_eqb}
 use Rattle.faults.specs.declared.SheetFault.{SheetFault}
 use Rattle.faults.specs.declared.SheetFault.TheVariants.{LineCount}
 use Rattle.tables.specs.declared.table.Table.{Table}
 use Rattle.text.specs.Lines.{Numbered}
-use Rattle.grammar.specs.Verdicts.{Counts, announced, onward, past_lines, contents_read, names_read, rest_read, bodies_read, counted_read, lines_read}
+use Rattle.grammar.specs.Verdicts.{Counts, onward, past_lines, contents_read, names_read, rest_read, bodies_read, counted_read, lines_read}
 use Rattle.sheet.specs.declared.contents.Contents.{Contents}
 use Rattle.sheet.specs.Sections.{announced_by, kept_contents, counts_in, announced_in}
 

@@ -1,5 +1,5 @@
 -- The sections of a sheet one after another, and the table that they fill.
-use Rattle.std.proofs.Common.{◌≡◌, ℕ, ◌+◌, ◌≤◌, List, [], length, take, drop, Ok, Err, Result, sym, refl, ap, ◌∙◌, ap₂, arith, length-drop}
+use Rattle.std.proofs.Common.{◌≡◌, ℕ, ◌+◌, ◌≤◌, List, [], length, take, drop, Ok, Err, Result, sym, refl, ap, ◌∙◌, ap₂, arith}
 use Rattle.std.proofs.lemmas.List.{take_all, drop-drop}
 use Rattle.faults.specs.declared.SheetFault.{SheetFault}
 use Rattle.tables.specs.declared.rows.Rows.{Rows}
@@ -13,7 +13,7 @@ use Rattle.tables.specs.Tables.{zero_place, zero_aggregate, zero_rule, zero_rela
 use Rattle.tables.proofs.Laid.{in_use_held}
 use Rattle.text.specs.Lines.{Numbered}
 use Rattle.text.specs.Names.{names_of}
-use Rattle.grammar.specs.Verdicts.{Counts, onward, rows_read, names_read, load_read, rule_read, relay_read, rest_read}
+use Rattle.grammar.specs.Verdicts.{onward, rows_read, names_read, load_read, rule_read, relay_read, rest_read}
 use Rattle.sheet.specs.declared.contents.Contents.{Contents}
 use Rattle.sheet.specs.Sections.{laid_rows, counts_in}
 

@@ -1,12 +1,10 @@
 -- A line that is not begun has all its words before it, so what is read of it is what the whole line says.
-use Rattle.std.proofs.Common.{◌≡◌, ℕ, ◌+◌, List, drop, Option, Result, ap}
+use Rattle.std.proofs.Common.{◌≡◌, ℕ, ◌+◌, List, drop, ap}
 use Rattle.tables.specs.declared.table.Aggregate.{Aggregate}
 use Rattle.tables.specs.declared.table.RelayLine.{RelayLine}
 use Rattle.tables.specs.declared.table.Rule.{Rule}
 use Rattle.text.specs.declared.reader.Line.{Line}
 use Rattle.text.specs.Lines.{placed, pieces, as_line, end_of, words_left, words_of}
-use Rattle.text.specs.Words.{Meaning}
-use Rattle.grammar.specs.declared.wrong.Wrong.{Wrong}
 use Rattle.grammar.specs.declared.wrong.Wrong.TheVariants as wrongs
 use Rattle.grammar.specs.declared.load.LoadState.TheVariants as loads
 use Rattle.grammar.specs.declared.name.NameState.TheVariants as named

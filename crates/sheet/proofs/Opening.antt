@@ -1,8 +1,8 @@
 -- A reader that was just made has all lines of its text before it.
-use Rattle.std.proofs.Common.{◌≡◌, ℕ, ◌+◌, ◌≤◌, List, length, take, drop, sym, ap, ◌∙◌}
+use Rattle.std.proofs.Common.{◌≡◌, ℕ, ◌+◌, ◌≤◌, List, length, take, drop, ap, ◌∙◌}
 use Rattle.std.proofs.lemmas.List.{take_all}
 use Rattle.text.specs.declared.reader.Reader.{Reader}
-use Rattle.text.specs.Lines.{Numbered, numbered, pieces, whole, lines_left, lines_of}
+use Rattle.text.specs.Lines.{numbered, pieces, whole, lines_left, lines_of}
 
 pub opened : (r : Reader) (text : List ℕ) → whole r ≡ take 16384 text → r.position ≡ 0 → r.lines ≡ 0 → length text ≤ 16384 → lines_left r ≡ lines_of text
 opened r text w p l short =

@@ -3,9 +3,7 @@ use Rattle.std.proofs.Common.{◌≡◌, ℕ, List, Ok, Err, Result, sym, refl, 
 use Rattle.faults.specs.declared.SheetFault.{SheetFault}
 use Rattle.tables.specs.declared.table.Table.{Table}
 use Rattle.grammar.specs.Verdicts.{verdict}
-use Rattle.refusals.specs.Refuses.{Faulty}
 use Rattle.refusals.proofs.Refusing.{refuses}
-use Rattle.written.specs.Accepts.{Writes}
 use Rattle.written.proofs.Accepts.{accepts}
 use Rattle.written.proofs.Alone.{one_sheet}
 use Rattle.sheet.specs.Reads.{answer, table_after, RightlyRead}

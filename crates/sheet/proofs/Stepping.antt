@@ -1,5 +1,5 @@
 -- A word that can stand moves the reading of its line on, and one that cannot ends it.
-use Rattle.std.proofs.Common.{◌≡◌, List, [], ◌∷◌, Ok, Err, Option, Result, sym, ap, ◌∙◌}
+use Rattle.std.proofs.Common.{◌≡◌, List, ◌∷◌, Ok, Err, Option, Result, sym, ap, ◌∙◌}
 use Rattle.faults.specs.declared.Spot.{Spot}
 use Rattle.faults.specs.declared.SheetFault.{SheetFault}
 use Rattle.text.specs.Lines.{Placed}

@@ -1,10 +1,10 @@
 -- What a caller needs of rows that hold a list: what is in use, whether there is room, and one more item.
-use Rattle.std.proofs.Common.{◌≡◌, ℕ, suc, ◌+◌, ◌-◌, ◌<◌, ◌≤◌, true, false, ltb, List, [], ◌∷◌, ◌++◌, length, take, set, replicate, sym, refl, ap, ◌∙◌, ⊎_elim, arith}
+use Rattle.std.proofs.Common.{◌≡◌, ℕ, suc, ◌-◌, ◌<◌, ◌≤◌, true, false, ltb, List, [], ◌∷◌, ◌++◌, length, set, replicate, sym, refl, ap, ◌∙◌, ⊎_elim, arith}
 use native.Mathlib.Nat.{sub-zero}
 use Rattle.std.proofs.lemmas.List.{take_at, set_at, length_push, append_assoc}
 use Rattle.std.proofs.lemmas.Bool.{cond-true, cond-false, lt-ltb, le-ltb, ltb-true, and_from, and_left, cases_lt}
 use Rattle.tables.specs.declared.rows.Rows.{Rows}
-use Rattle.tables.specs.Rows.{laid, in_use, has_room, with_item, pushed}
+use Rattle.tables.specs.Rows.{laid, in_use, has_room, pushed}
 
 abbrev rows_of : {T : Type 0} (N : ℕ) → ℕ → List T → Rows T N
 rows_of N count items = record { count = count; items = items }

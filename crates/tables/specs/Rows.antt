@@ -1,5 +1,5 @@
 -- A list of fixed size as the list that it holds.
-use Rattle.std.specs.Prelude.{ℕ, ◌+◌, ◌-◌, Bool, cond, ◌&&◌, List, [], ◌∷◌, ◌++◌, length, take, replicate, nat_lt, slice_set}
+use Rattle.std.specs.Prelude.{ℕ, ◌+◌, ◌-◌, Bool, cond, ◌&&◌, List, ◌++◌, length, take, replicate, nat_lt, slice_set}
 use Rattle.tables.specs.declared.rows.Rows.{Rows}
 
 -- The rows that hold exactly these items, the first ones, and zero in every other row.

@@ -1,6 +1,5 @@
 -- The record of a sheet, as the lists that it holds.
 use Rattle.std.specs.Prelude.{ℕ, false, List, [], ℤ, pos}
-use Rattle.tables.specs.declared.rows.Rows.{Rows}
 use Rattle.tables.specs.declared.table.Place.{Place}
 use Rattle.tables.specs.declared.table.Comparison.{Comparison}
 use Rattle.tables.specs.declared.table.Comparison.TheVariants as comparison

@@ -1,9 +1,9 @@
 -- Bytes that are cut at a byte: the first piece, and what is left after it.
-use Rattle.std.proofs.Common.{◌≡◌, ℕ, zero, suc, ◌+◌, ◌-◌, ◌<◌, ◌≤◌, Bool, true, false, cond, eqb, ltb, List, [], ◌∷◌, length, get_or, take, drop, sym, refl, ap, ◌∙◌, subst, ⊎_elim, add-one, arith}
+use Rattle.std.proofs.Common.{◌≡◌, ℕ, zero, suc, ◌+◌, ◌-◌, ◌<◌, ◌≤◌, true, false, cond, eqb, ltb, List, [], ◌∷◌, length, get_or, take, drop, sym, refl, ap, ◌∙◌, ⊎_elim, add-one, arith}
 use native.Mathlib.Nat.{sub-zero}
 use Rattle.std.proofs.lemmas.List.{drop-drop, take_rest, take_all, drop_all, length-drop, length-take-le, at_drop_all}
-use Rattle.std.proofs.lemmas.Bool.{cond-true, cond-false, eq-eqb, ne_eqb, cases_lt, cases_Bool, lt-ltb, le-ltb}
-use Rattle.text.specs.Lines.{onto, pieces, Numbered, numbered, placed}
+use Rattle.std.proofs.lemmas.Bool.{cond-true, cond-false, eq-eqb, ne_eqb, cases_lt, lt-ltb, le-ltb}
+use Rattle.text.specs.Lines.{onto, pieces, numbered, placed}
 
 -- none of the first n bytes is the stop
 abbrev Free : ℕ → List ℕ → ℕ → Type 0

@@ -1,10 +1,10 @@
 -- One step in the reading of a number, and the minus before it.
-use Rattle.std.proofs.Common.{◌≡◌, ℕ, ◌+◌, ◌-◌, ◌*◌, ◌<◌, ◌≤◌, Bool, true, false, cond, ◌&&◌, eqb, leb, List, [], ◌∷◌, length, get_or, take, drop, ℤ, pos, ◌-ℤ◌, neg_ℤ, Some, None, Option, sym, refl, ap, ◌∙◌, arith, w32, to_z, of_z}
+use Rattle.std.proofs.Common.{◌≡◌, ℕ, ◌+◌, ◌-◌, ◌*◌, ◌<◌, ◌≤◌, true, false, cond, eqb, leb, List, [], ◌∷◌, length, get_or, take, drop, pos, ◌-ℤ◌, Some, None, Option, sym, refl, ap, ◌∙◌, arith, w32, to_z, of_z}
 use Rattle.std.proofs.lemmas.Int.{ints}
 use Rattle.std.proofs.lemmas.List.{at_drop_more, at_drop_all, take_rest}
 use Rattle.std.proofs.lemmas.Bool.{cond-true, cond-false, eq-eqb, ne_eqb}
 use Rattle.std.proofs.lemmas.Bool.Decides.{nat_tests}
-use Rattle.text.specs.Numbers.{is_digit, digits, small, magnitude_of, well_begun, negative, plain, number_of}
+use Rattle.text.specs.Numbers.{is_digit, digits, small, magnitude_of, well_begun, negative, number_of}
 
 -- a number that is too large stays so
 too_large : (n : ℕ) (bytes : List ℕ) → 1000000 < n → small (digits n bytes) ≡ None

@@ -1,6 +1,7 @@
 // The boards worked by hand: for each its settled bounds and all of its stable interpretations, as one table in specs/ and
 // one theorem over the definitions that settling and the law over runs cite.
 #![tactic(auto)]
+
 ghost use Rattle.std.specs.Prelude.{◌≡◌, List};
 ghost use Rattle.tables.specs.declared.table.Place.{Place};
 ghost use Rattle.worked.specs.Boards.{row, BoardsWorked};

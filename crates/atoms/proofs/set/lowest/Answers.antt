@@ -1,4 +1,4 @@
-use Rattle.std.proofs.Common.{ℕ, ◌<◌, arith}
+use Rattle.std.proofs.Common.{◌<◌, arith}
 use Rattle.atoms.proofs.Ordering.{lowest_at}
 use Rattle.atoms.proofs.set.lowest.Goals as goal
 

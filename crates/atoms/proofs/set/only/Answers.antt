@@ -1,4 +1,4 @@
-use Rattle.std.proofs.Common.{◌≡◌, ℕ, ◌-◌, ◌%◌, ◌^◌, ◌≤◌, sym}
+use Rattle.std.proofs.Common.{sym}
 use Rattle.atoms.proofs.Digits.{pow_mod_zero}
 use Rattle.atoms.proofs.set.only.Goals as goal
 

@@ -1,4 +1,4 @@
-use Rattle.std.proofs.Common.{◌≡◌, is_err, Err, ap, ◌∙◌}
+use Rattle.std.proofs.Common.{is_err, Err, ap, ◌∙◌}
 use Rattle.std.proofs.lemmas.Result.{err_from_is_err_and, IfOk-from_err}
 use Rattle.text.specs.Lines.{lines_left}
 use Rattle.sheet.proofs.Announcing.{contents_whole, contents_fault, left_after, moved_four}

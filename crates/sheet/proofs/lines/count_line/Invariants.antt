@@ -1,6 +1,5 @@
-use Rattle.std.proofs.Common.{◌≡◌, length, take}
+use Rattle.std.proofs.Common.{◌≡◌, length}
 use Rattle.text.specs.Lines.{words_left}
-use Rattle.text.specs.Names.{names_of}
 use Rattle.grammar.specs.declared.count.CountState.TheVariants as states
 use Rattle.grammar.specs.declared.wrong.Wrong.TheVariants as wrongs
 use Rattle.grammar.specs.Counts.{count_next, count_done}

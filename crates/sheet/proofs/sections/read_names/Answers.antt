@@ -1,4 +1,4 @@
-use Rattle.std.proofs.Common.{◌≡◌, ℕ, List, [], take, is_err, Err, ap, ◌∙◌, ap₂}
+use Rattle.std.proofs.Common.{ℕ, List, [], take, is_err, Err, ap, ◌∙◌, ap₂}
 use Rattle.std.proofs.lemmas.Result.{err_from_is_err_and, IfOk-from_err}
 use Rattle.tables.specs.Rows.{laid}
 use Rattle.tables.specs.declared.table.Place.{Place}

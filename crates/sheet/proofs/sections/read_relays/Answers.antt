@@ -1,4 +1,4 @@
-use Rattle.std.proofs.Common.{◌≡◌, [], take, is_err, Err, ap, ◌∙◌, arith}
+use Rattle.std.proofs.Common.{[], take, is_err, Err, ap, ◌∙◌, arith}
 use Rattle.std.proofs.lemmas.Result.{err_from_is_err_and, IfOk-from_err}
 use Rattle.tables.specs.Rows.{laid}
 use Rattle.tables.specs.Tables.{zero_relay}

@@ -1,4 +1,4 @@
-use Rattle.std.proofs.Common.{◌≡◌, ℕ, sym, subst, add-one}
+use Rattle.std.proofs.Common.{ℕ, sym, subst, add-one}
 use Rattle.approx.specs.Meanings.{meaning}
 use Rattle.approx.specs.Settling.{Rounds, begins, goes_on}
 use Rattle.solver.proofs.settling.bounds_after.Goals as goal

@@ -1,6 +1,6 @@
 use Rattle.std.proofs.Common.{◌≤◌, length, ap, ◌∙◌, arith, w16, SFits, rules}
 use Rattle.aggregates.specs.Sums.{low_sum, high_sum}
-use Rattle.aggregates.proofs.Summing.{few_entries, summed_start, summed_turn, summed_fits, summed_end}
+use Rattle.aggregates.proofs.Summing.{few_entries, summed_start, summed_turn, summed_end}
 use Rattle.aggregates.proofs.sums.Span.of.Goals as goal
 
 pub loop-entry-init : goal.loop-entry-init

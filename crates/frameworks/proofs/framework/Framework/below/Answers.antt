@@ -1,4 +1,4 @@
-use Rattle.std.proofs.Common.{◌≡◌, ℕ, min, max, ap, ◌∙◌, arith}
+use Rattle.std.proofs.Common.{◌≡◌, min, ap, ◌∙◌, arith}
 use lib.Bits.{bit_and, and_mask}
 use Rattle.atoms.specs.Sets.{all_below}
 use Rattle.frameworks.specs.Frameworks.{width_of}

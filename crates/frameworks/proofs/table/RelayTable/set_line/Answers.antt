@@ -1,4 +1,4 @@
-use Rattle.std.proofs.Common.{◌≡◌, ℕ, ◌≤◌, length, sym, arith}
+use Rattle.std.proofs.Common.{◌≤◌, length, sym, arith}
 use Rattle.frameworks.specs.Standing.{line_past}
 use Rattle.frameworks.proofs.table.RelayTable.set_line.Goals as goal
 
