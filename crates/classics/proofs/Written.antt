@@ -1,6 +1,6 @@
 -- The rules that an accepted text writes name marks below the width only.
 use Rattle.std.proofs.Common.{◌≡◌, ℕ, List, [], ◌∷◌, map, length, sym, ap, ◌∙◌, subst, inl, inr, arith}
-use Rattle.std.specs.List.{AllByRecursion as All}
+use Rattle.std.specs.List.{AllByRecursion}
 use Rattle.tables.specs.declared.table.Item.{Item}
 use Rattle.tables.specs.declared.table.Item.TheVariants.{Atom, NotAtom, Aggregate}
 use Rattle.tables.specs.declared.table.Rule.{Rule}
@@ -15,12 +15,12 @@ use Rattle.written.specs.Writing.{rule_row}
 use Rattle.classics.specs.Sheets.{SheetsNormal}
 
 -- a row among those of some lines is the row of a line of which the same holds
-row_of : (P : RuleLine → Type 0) (r : Rule) (lines : List RuleLine) → All P lines → Among r (map rule_row lines) → (line : RuleLine) × ((r ≡ rule_row line) × P line)
+row_of : (P : RuleLine → Type 0) (r : Rule) (lines : List RuleLine) → AllByRecursion P lines → Among r (map rule_row lines) → (line : RuleLine) × ((r ≡ rule_row line) × P line)
 row_of P r [] all m = absurd m
 row_of P r (line ∷ lines) all (inl e) = (line, (e, all.0))
 row_of P r (line ∷ lines) all (inr m) = row_of P r lines all.1 m
 
-item_of : (P : Item → Type 0) (x : Item) (xs : List Item) → All P xs → Among x xs → P x
+item_of : (P : Item → Type 0) (x : Item) (xs : List Item) → AllByRecursion P xs → Among x xs → P x
 item_of P x [] all m = absurd m
 item_of P x (y ∷ ys) all (inl e) = subst P (sym e) all.0
 item_of P x (y ∷ ys) all (inr m) = item_of P x ys all.1 m

@@ -1,6 +1,6 @@
 -- The verdict accepts just the texts that write a lawful sheet, and then gives that sheet's table.
 use Rattle.std.proofs.Common.{◌≡◌, ℕ, ◌+◌, ◌≤◌, List, [], ◌∷◌, map, length, Ok, Err, Result, sym, refl, ap, ◌∙◌, subst, arith}
-use Rattle.std.specs.List.{AllByRecursion as All}
+use Rattle.std.specs.List.{AllByRecursion}
 use Rattle.faults.specs.declared.SheetFault.{SheetFault}
 use Rattle.faults.specs.declared.TextFault.{TextFault}
 use Rattle.tables.specs.declared.table.Table.{Table}
@@ -32,7 +32,7 @@ numbered_words : (n : ℕ) (ps : List (List ℕ)) → map words (numbered n ps) 
 numbered_words n [] = refl
 numbered_words n (p ∷ ps) = ap (λ l. pieces 32 p ∷ l) (numbered_words (n + 1) ps)
 
-numbered_spaced : (n : ℕ) (ps : List (List ℕ)) → All (λ p. spaced (pieces 32 p) ≡ p) ps → All Spaced (numbered n ps)
+numbered_spaced : (n : ℕ) (ps : List (List ℕ)) → AllByRecursion (λ p. spaced (pieces 32 p) ≡ p) ps → AllByRecursion Spaced (numbered n ps)
 numbered_spaced n [] h = tt
 numbered_spaced n (p ∷ ps) h = (h.0, numbered_spaced (n + 1) ps h.1)
 
@@ -41,7 +41,7 @@ module _ (text : List ℕ) (u : Unit {0}) (passed : text_verdict text ≡ Ok u) 
   laid : ended 10 (map bytes_of (lines_of text)) ≡ text
   laid = ap (ended 10) (numbered_bytes 1 (pieces 10 text)) ∙ passed_ended text u passed
 
-  spaces : All Spaced (lines_of text)
+  spaces : AllByRecursion Spaced (lines_of text)
   spaces = numbered_spaced 1 (pieces 10 text) (passed_spaced text u passed)
 
   rewritten : text_of (map words (lines_of text)) ≡ text

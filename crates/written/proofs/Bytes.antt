@@ -1,7 +1,7 @@
 -- A text that keeps the laws of bytes and spaces is made of lines and words, and a text of good lines keeps them.
 use Rattle.std.proofs.Common.{◌≡◌, ℕ, ◌<◌, ◌≤◌, Bool, true, false, cond, eqb, List, [], ◌∷◌, ◌++◌, map, length, get_or, Ok, sym, refl, ap, ◌∙◌, subst, arith}
 use Rattle.std.specs.Int.{IsInRange}
-use Rattle.std.specs.List.{AllByRecursion as All}
+use Rattle.std.specs.List.{AllByRecursion}
 use Rattle.std.proofs.ByRecursion.{All-weaker}
 use Rattle.std.proofs.lemmas.List.{append_assoc, append-nil, length-map}
 use Rattle.std.proofs.lemmas.Bool.{eqb-true}
@@ -21,9 +21,9 @@ Head before text (b ∷ bs) = Trim 32 (b ∷ bs)
 
 abbrev Trimmed : ℕ → List ℕ → List (List ℕ) → Type 0
 Trimmed before text [] = get_or text 0 10 ≡ 10
-Trimmed before text (p ∷ ps) = Head before text p × All (Trim 32) ps
+Trimmed before text (p ∷ ps) = Head before text p × AllByRecursion (Trim 32) ps
 
-trim_all : (text : List ℕ) (ps : List (List ℕ)) → Trimmed 10 text ps → All (Trim 32) ps
+trim_all : (text : List ℕ) (ps : List (List ℕ)) → Trimmed 10 text ps → AllByRecursion (Trim 32) ps
 trim_all text [] h = tt
 trim_all text ([] ∷ ps) h = absurd (h.0.1 refl)
 trim_all text ((b ∷ bs) ∷ ps) h = h
@@ -59,7 +59,7 @@ module _ (text : List ℕ) (u : Unit {0}) (passed : text_verdict text ≡ Ok u) 
   passed_ended = ap (λ t. ended 10 (pieces 10 t)) (sym kept.ends) ∙ ended_pieces 10 kept.front ∙ kept.ends
 
   -- and each line is its words with spaces between them
-  pub passed_spaced : All (λ line. spaced (pieces 32 line) ≡ line) (pieces 10 text)
+  pub passed_spaced : AllByRecursion (λ line. spaced (pieces 32 line) ≡ line) (pieces 10 text)
   passed_spaced = All-weaker (Trim 32) (λ line. spaced (pieces 32 line) ≡ line) spaced_pieces (pieces 10 text) (trim_all text (pieces 10 text) (lines_trimmed 10 text kept.spaces))
 
 -- ---- a text of good lines passes
@@ -111,7 +111,7 @@ module _ (bad : ℕ → ℕ → ℕ → Bool) (lets : Lets bad) where
       rw (append_assoc w (32 ∷ spaced (v ∷ vs)) rest)
       (keeps_word before w (32 ∷ (spaced (v ∷ vs) ++ rest)) g.1.0 (λ b i. (lets.space b _ i (seen_spaced (v ∷ vs) rest more), keeps_line 32 (v ∷ vs) rest more go)))
 
-  keeps_text : (lines : List (List Word)) → All GoodLine lines → Kept bad 10 (text_of lines)
+  keeps_text : (lines : List (List Word)) → AllByRecursion GoodLine lines → Kept bad 10 (text_of lines)
   keeps_text [] g = tt
   keeps_text (line ∷ lines) g =
       rw (append_assoc (spaced line) (10 ∷ []) (text_of lines))
@@ -126,7 +126,7 @@ last_ended (p ∷ q ∷ qs) h =
     ((p ++ 10 ∷ []) ++ more.0, append_assoc (p ++ 10 ∷ []) more.0 (10 ∷ []) ∙ ap (λ l. (p ++ 10 ∷ []) ++ l) more.1)
 
 -- a text of some good lines that is not too long passes
-pub good_passes : (lines : List (List Word)) → 0 < length lines → All GoodLine lines → length (text_of lines) ≤ 16384 → text_verdict (text_of lines) ≡ Ok tt
+pub good_passes : (lines : List (List Word)) → 0 < length lines → AllByRecursion GoodLine lines → length (text_of lines) ≤ 16384 → text_verdict (text_of lines) ≡ Ok tt
 good_passes lines some g short =
     let end = last_ended (map spaced lines) (simp length-map some) in
     kept_passes (text_of lines) short (record {

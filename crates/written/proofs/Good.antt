@@ -2,7 +2,7 @@
 use Rattle.std.proofs.Common.{◌≡◌, ℕ, suc, ◌<◌, ◌≤◌, Bool, true, false, ◌&&◌, ltb, leb, List, [], ◌∷◌, map, length, ℤ, pos, negsuc, codes, decimal, refl, arith}
 use Rattle.std.specs.Int.{IsInRange}
 use Rattle.std.specs.Fmt.{signed_decimal}
-use Rattle.std.specs.List.{flat_map, AllByRecursion as All}
+use Rattle.std.specs.List.{flat_map, AllByRecursion}
 use Rattle.std.proofs.ByRecursion.{All-weaker, All-append, All-map, All-get_or}
 use Rattle.std.proofs.lemmas.Bool.{and_parts, leb-true, ltb-true}
 use Rattle.tables.specs.declared.table.Comparison.{Comparison}
@@ -23,7 +23,7 @@ abbrev seen : List ℕ → Bool
 seen [] = true
 seen (b ∷ bs) = (leb 33 b && leb b 126) && seen bs
 
-all_seen : (w : Word) → seen w ≡ true → All (IsInRange 33 126) w
+all_seen : (w : Word) → seen w ≡ true → AllByRecursion (IsInRange 33 126) w
 all_seen [] e = tt
 all_seen (b ∷ bs) e =
     let parts = and_parts (leb 33 b && leb b 126) (seen bs) e in
@@ -44,7 +44,7 @@ good_signed (negsuc n) h = (omega arith, ((omega arith, omega arith), (good_deci
 good_name : (w : Word) → LawfulName w → GoodWord w
 good_name w h = (h.some, All-weaker NameByte (IsInRange 33 126) (λ b i. (omega arith, omega arith)) w h.bytes)
 
-all_joined : {X : Type 0} (P : Word → Type 0) (f : X → List Word) (Q : X → Type 0) → ((x : X) → Q x → All P (f x)) → (xs : List X) → All Q xs → All P (flat_map f xs)
+all_joined : {X : Type 0} (P : Word → Type 0) (f : X → List Word) (Q : X → Type 0) → ((x : X) → Q x → AllByRecursion P (f x)) → (xs : List X) → AllByRecursion Q xs → AllByRecursion P (flat_map f xs)
 all_joined P f Q each [] h = tt
 all_joined P f Q each (x ∷ xs) h = All-append P (f x) (flat_map f xs) (each x h.0) (all_joined P f Q each xs h.1)
 
@@ -58,19 +58,19 @@ good_comparison AtLeast = good_literal (codes ">=") refl refl
 good_comparison Equal = good_literal (codes "=") refl refl
 good_comparison Unequal = good_literal (codes "!=") refl refl
 
-module _ (names : List Word) (lawful : All LawfulName names) where
+module _ (names : List Word) (lawful : AllByRecursion LawfulName names) where
   good_atom : (i : ℕ) → i < length names → GoodWord (name_at names i)
   good_atom i h = good_name (name_at names i) (All-get_or LawfulName names i [] h lawful)
 
-  good_condition : (negated : Bool) (i : ℕ) → i < length names → All GoodWord (condition_words names negated i)
+  good_condition : (negated : Bool) (i : ℕ) → i < length names → AllByRecursion GoodWord (condition_words names negated i)
   good_condition true i h = (good_literal (codes "not") refl refl, (good_atom i h, tt))
   good_condition false i h = (good_atom i h, tt)
 
-  good_weight : (k : Kind) (e : Entry) → LawfulEntry (length names) k e → All GoodWord (weight_words k e)
+  good_weight : (k : Kind) (e : Entry) → LawfulEntry (length names) k e → AllByRecursion GoodWord (weight_words k e)
   good_weight Sum e h = (good_signed e.weight (small_weight e.weight h.weighs), tt)
   good_weight Count e h = tt
 
-  good_entry : (k : Kind) (e : Entry) → LawfulEntry (length names) k e → All GoodWord (entry_words names k e)
+  good_entry : (k : Kind) (e : Entry) → LawfulEntry (length names) k e → AllByRecursion GoodWord (entry_words names k e)
   good_entry k e h = All-append GoodWord (weight_words k e) _ (good_weight k e h) (good_condition e.negated e.atom h.known)
 
   good_load : (x : LoadLine) → LawfulLoad (length names) x → GoodLine (load_words names x)
@@ -89,12 +89,12 @@ module _ (names : List Word) (lawful : All LawfulName names) where
   )
 
   module _ (loads : ℕ) (few : loads ≤ 1000000) where
-    good_item : (x : Item) → LawfulItem (length names) loads x → All GoodWord (item_words names x)
+    good_item : (x : Item) → LawfulItem (length names) loads x → AllByRecursion GoodWord (item_words names x)
     good_item (Atom i) h = good_condition false i h
     good_item (NotAtom i) h = good_condition true i h
     good_item (Aggregate n) h = (good_literal (codes "load") refl refl, (good_decimal n (omega arith), tt))
 
-    good_body : (xs : List Item) → All (LawfulItem (length names) loads) xs → All GoodWord (body_words names xs)
+    good_body : (xs : List Item) → AllByRecursion (LawfulItem (length names) loads) xs → AllByRecursion GoodWord (body_words names xs)
     good_body [] h = tt
     good_body (x ∷ xs) h = (good_literal (codes "if") refl refl, all_joined GoodWord (item_words names) (LawfulItem (length names) loads) good_item (x ∷ xs) h)
 
@@ -116,11 +116,11 @@ module _ (names : List Word) (lawful : All LawfulName names) where
 good_count : (word : Word) (n : ℕ) → GoodWord word → n ≤ 1000000 → GoodLine (word ∷ decimal n ∷ [])
 good_count word n good few = (omega arith, (good, (good_decimal n few, tt)))
 
-lines_good : {X : Type 0} (spell : X → List Word) (P : X → Type 0) → ((x : X) → P x → GoodLine (spell x)) → (xs : List X) → All P xs → All GoodLine (map spell xs)
+lines_good : {X : Type 0} (spell : X → List Word) (P : X → Type 0) → ((x : X) → P x → GoodLine (spell x)) → (xs : List X) → AllByRecursion P xs → AllByRecursion GoodLine (map spell xs)
 lines_good spell P each xs h = All-map GoodLine spell xs (All-weaker P (λ x. GoodLine (spell x)) each xs h)
 
 -- the lines of a lawful sheet are good
-pub sheet_good : (sheet : Sheet) → LawfulSheet sheet → All GoodLine (sheet_lines sheet)
+pub sheet_good : (sheet : Sheet) → LawfulSheet sheet → AllByRecursion GoodLine (sheet_lines sheet)
 sheet_good sheet h =
     let names : List Word = sheet.names in (
       good_count (codes "marks") (length sheet.names) (good_literal (codes "marks") refl refl) (omega (arith, h.few_names)),

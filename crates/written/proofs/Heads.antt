@@ -1,6 +1,6 @@
 -- The lines of the contents and the name lines.
 use Rattle.std.proofs.Common.{◌≡◌, ℕ, ◌≤◌, List, [], ◌∷◌, Some, None, Ok, decimal, Option, sym, refl, ap, ◌∙◌}
-use Rattle.std.specs.List.{AllByRecursion as All}
+use Rattle.std.specs.List.{AllByRecursion}
 use Rattle.std.specs.Str.{bytes_eq}
 use Rattle.std.proofs.lemmas.Slice.Eq.{bytes_eq-Decides}
 use Rattle.std.proofs.lemmas.Bool.{cond-true}
@@ -83,7 +83,7 @@ module _ (names : List Word) (from : ℕ) where
     pub line : Word
     pub spelt : (line ∷ []) ≡ ws
     pub lawful : LawfulName line
-    pub first : All (λ n. n ≡ line → ⊥) names
+    pub first : AllByRecursion (λ n. n ≡ line → ⊥) names
     pub placed : place_at from line ≡ r
 
   placed_told : (p : Place) (ws : List Word) (r : Place) → goes (name.Named p) ws ≡ Some r → (ws ≡ []) × (p ≡ r)
@@ -105,7 +105,7 @@ module _ (names : List Word) (from : ℕ) where
         placed = ap (place_at from) told.1 ∙ last.1;
       }
 
-  pub name_line_tells : (w : Word) → LawfulName w → All (λ n. n ≡ w → ⊥) names → goes name.Start (w ∷ []) ≡ Some (place_at from w)
+  pub name_line_tells : (w : Word) → LawfulName w → AllByRecursion (λ n. n ≡ w → ⊥) names → goes name.Start (w ∷ []) ≡ Some (place_at from w)
   name_line_tells w lawful first =
       run_step (name_next names from) name_done name.Start (name.Named (place_at from w)) w []
       (ap (λ m. named names from (name_said m)) (says_name w lawful) ∙ ap (new_name from w) (none_among 0 names w first))

@@ -1,7 +1,7 @@
 -- Load lines: the machine makes a row just of the words of a lawful load.
 use Rattle.std.proofs.Common.{◌≡◌, ℕ, ◌<◌, Bool, true, false, cond, List, [], ◌∷◌, ◌++◌, length, ℤ, pos, negsuc, ◌≤ℤ◌, Some, Ok, codes, Option, sym, refl, ap, ◌∙◌, arith}
 use Rattle.std.specs.Fmt.{signed_decimal}
-use Rattle.std.specs.List.{flat_map, AllByRecursion as All}
+use Rattle.std.specs.List.{flat_map, AllByRecursion}
 use Rattle.std.proofs.ByRecursion.{All-get_or}
 use Rattle.std.proofs.lemmas.List.{append_assoc, length-append}
 use Rattle.std.proofs.lemmas.Int.{ints}
@@ -188,7 +188,7 @@ module _ (names : List Word) where
 
   -- ---- what the machine takes
 
-  module _ (lawful : All LawfulName names) (once : NoneTwice names) where
+  module _ (lawful : AllByRecursion LawfulName names) (once : NoneTwice names) where
     module _ (a : Aggregate) (weight : ℤ) (atom : ℕ) (known : atom < length names) where
       put_name : (s : LoadState) (negated : Bool) (rest : List Word)
           → load_next names s (meaning (name_at names atom)) ≡ or_wrong (atom_said names (meaning (name_at names atom))) wrong.NotAName (λ i. load.Entries (with_entry a weight i negated))

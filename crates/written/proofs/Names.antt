@@ -1,7 +1,7 @@
 -- The names of atoms: which are lawful, and what number a name has among them.
 use Rattle.std.proofs.Common.{◌≡◌, ℕ, zero, suc, ◌+◌, ◌<◌, ◌≤◌, true, false, cond, ◌&&◌, eqb, ltb, leb, List, [], ◌∷◌, length, get_or, Some, None, Decides, sym, refl, ap, ◌∙◌, add-zero, arith}
 use Rattle.std.specs.Int.{IsInRange}
-use Rattle.std.specs.List.{AllByRecursion as All}
+use Rattle.std.specs.List.{AllByRecursion}
 use Rattle.std.specs.Str.{bytes_eq}
 use Rattle.std.proofs.ByRecursion.{All-get_or, Decides-by_and}
 use Rattle.std.proofs.lemmas.Slice.Eq.{bytes_eq-Decides}
@@ -20,7 +20,7 @@ decides_name_byte : (b : ℕ) → Decides (name_byte b) (NameByte b)
 decides_name_byte b = Decides-or (is_letter b) _ (decides_in 97 122 b) (Decides-or (leb 48 b && leb b 57) (eqb b 95) (decides_in 48 57 b) (Decides-eqb b 95))
 
 -- the test of a name says what a lawful name is made of
-pub decides_lawful : (w : List ℕ) → Decides (lawful_name w) ((0 < length w) × ((length w ≤ 16) × (IsInRange 97 122 (get_or w 0 0) × All NameByte w)))
+pub decides_lawful : (w : List ℕ) → Decides (lawful_name w) ((0 < length w) × ((length w ≤ 16) × (IsInRange 97 122 (get_or w 0 0) × AllByRecursion NameByte w)))
 decides_lawful w =
     Decides-and (ltb 0 (length w)) _ (Decides-ltb 0 (length w))
     (Decides-and (leb (length w) 16) _ (leb-true (length w) 16, le-leb (length w) 16)
@@ -51,14 +51,14 @@ some_among from (name ∷ names) (suc k) once h =
     cond-false _ _ _ (differs name (name_at names k) apart) ∙ some_among (from + 1) names k once.1 (omega arith) ∙ ap Some (omega arith)
 
 -- none is found where no name is the word
-pub among_none : (from : ℕ) (names : List Word) (w : Word) → atom_among from names w ≡ None → All (λ name. name ≡ w → ⊥) names
+pub among_none : (from : ℕ) (names : List Word) (w : Word) → atom_among from names w ≡ None → AllByRecursion (λ name. name ≡ w → ⊥) names
 among_none from [] w e = tt
 among_none from (name ∷ names) w e =
-    elim (bytes_eq name w) as (λ t. bytes_eq name w ≡ t → cond t (Some from) (atom_among (from + 1) names w) ≡ None → All (λ n. n ≡ w → ⊥) (name ∷ names)) [
+    elim (bytes_eq name w) as (λ t. bytes_eq name w ≡ t → cond t (Some from) (atom_among (from + 1) names w) ≡ None → AllByRecursion (λ n. n ≡ w → ⊥) (name ∷ names)) [
       | true ↦ λ s q. no_way (cc)
       | false ↦ λ s q. (not_from_Decides (bytes_eq name w) (bytes_eq-Decides name w) s, among_none (from + 1) names w q)
     ] refl e
 
-pub none_among : (from : ℕ) (names : List Word) (w : Word) → All (λ name. name ≡ w → ⊥) names → atom_among from names w ≡ None
+pub none_among : (from : ℕ) (names : List Word) (w : Word) → AllByRecursion (λ name. name ≡ w → ⊥) names → atom_among from names w ≡ None
 none_among from [] w apart = refl
 none_among from (name ∷ names) w apart = cond-false _ _ _ (differs name w apart.0) ∙ none_among (from + 1) names w apart.1

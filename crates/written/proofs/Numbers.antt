@@ -3,7 +3,7 @@ use Rattle.std.proofs.Common.{◌≡◌, ℕ, zero, suc, ◌+◌, ◌-◌, ◌*�
 use lib.Signed.{mag}
 use Rattle.std.specs.Int.{IsInRange}
 use Rattle.std.specs.Fmt.{signed_decimal}
-use Rattle.std.specs.List.{AllByRecursion as All}
+use Rattle.std.specs.List.{AllByRecursion}
 use Rattle.std.proofs.lemmas.Fmt.{decimal-digits_value, digits_decimal, digits_value-decimal, decimal_nonempty, decimal_digit, first_decimal}
 use Rattle.std.proofs.lemmas.Str.Parse.{IsNumeralModel, numerals_by_fold}
 use Rattle.std.proofs.lemmas.Bool.{cond-true, cond-false, ne_eqb, eqb-true, eqb-false, leb-true, le-leb, and_parts, and_right, lt-leb, cases_eq, not-true, not_from_false}
@@ -87,14 +87,14 @@ pub decimal_begins : (n : ℕ) → n ≤ 1000000 → IsInRange 48 57 (get_or (de
 decimal_begins n few = first_digit (decimal n) (decimal_nonempty n (under n few)) (digits_decimal own n (under n few))
 
 -- all its bytes are digits
-digits_in : (w : List ℕ) → all_digits w ≡ true → All (IsInRange 48 57) w
+digits_in : (w : List ℕ) → all_digits w ≡ true → AllByRecursion (IsInRange 48 57) w
 digits_in [] e = tt
 digits_in (b ∷ bs) e =
     let p = and_parts (is_digit b) (all_digits bs) e in
     let q = and_parts (leb 48 b) (leb b 57) p.0 in
     ((leb-true 48 b q.0, leb-true b 57 q.1), digits_in bs p.1)
 
-pub decimal_digits : (n : ℕ) → n ≤ 1000000 → All (IsInRange 48 57) (decimal n)
+pub decimal_digits : (n : ℕ) → n ≤ 1000000 → AllByRecursion (IsInRange 48 57) (decimal n)
 decimal_digits n few = digits_in (decimal n) (digits_decimal own n (under n few))
 
 pub decimal_length : (n : ℕ) → n ≤ 1000000 → 0 < length (decimal n)

@@ -1,7 +1,7 @@
 -- Pieces that are put together again, and the pieces of what was put together.
 use Rattle.std.proofs.Common.{◌≡◌, ℕ, ◌<◌, true, false, cond, eqb, List, [], ◌∷◌, ◌++◌, map, length, sym, refl, ap, ◌∙◌, arith}
 use Rattle.std.specs.Int.{IsInRange}
-use Rattle.std.specs.List.{AllByRecursion as All}
+use Rattle.std.specs.List.{AllByRecursion}
 use Rattle.std.proofs.ByRecursion.{All-weaker, All-append}
 use Rattle.std.proofs.lemmas.List.{append-nil, append_assoc, append_cancel_right, length-append}
 use Rattle.std.proofs.lemmas.Bool.{cond-true, cond-false, eq-eqb, ne_eqb, eqb-true}
@@ -10,7 +10,7 @@ use Rattle.written.specs.Writing.{Word, spaced, ended, text_of}
 
 -- bytes without the stop
 abbrev pub Free : ℕ → List ℕ → Type 0
-Free stop bytes = All (λ byte. byte ≡ stop → ⊥) bytes
+Free stop bytes = AllByRecursion (λ byte. byte ≡ stop → ⊥) bytes
 
 -- there is a last byte, and it is not the stop
 abbrev pub Trim : ℕ → List ℕ → Type 0
@@ -37,7 +37,7 @@ module _ (stop : ℕ) where
   pieces_front (b ∷ p) rest free = cond-false _ _ _ (ne_eqb b stop free.0) ∙ ap (onto b) (pieces_front p rest free.1)
 
   -- the pieces of pieces, each ended by the stop, are those pieces
-  pub pieces_ended : (ps : List (List ℕ)) → All (Free stop) ps → pieces stop (ended stop ps) ≡ ps
+  pub pieces_ended : (ps : List (List ℕ)) → AllByRecursion (Free stop) ps → pieces stop (ended stop ps) ≡ ps
   pieces_ended [] free = refl
   pieces_ended (p ∷ ps) free =
       ap (pieces stop) (append_assoc p (stop ∷ []) (ended stop ps)) ∙ pieces_front p (ended stop ps) free.0 ∙ ap (λ l. p ∷ l) (pieces_ended ps free.1)
@@ -64,13 +64,13 @@ module _ (stop : ℕ) where
 
 -- a word has a byte, and each of its bytes can be seen
 abbrev pub GoodWord : Word → Type 0
-GoodWord word = (0 < length word) × All (IsInRange 33 126) word
+GoodWord word = (0 < length word) × AllByRecursion (IsInRange 33 126) word
 
 -- a line has a word, and good words alone
 abbrev pub GoodLine : List Word → Type 0
-GoodLine words = (0 < length words) × All GoodWord words
+GoodLine words = (0 < length words) × AllByRecursion GoodWord words
 
-seen_free : (stop : ℕ) → stop < 33 → (bytes : List ℕ) → All (IsInRange 33 126) bytes → Free stop bytes
+seen_free : (stop : ℕ) → stop < 33 → (bytes : List ℕ) → AllByRecursion (IsInRange 33 126) bytes → Free stop bytes
 seen_free stop h bytes good = All-weaker (IsInRange 33 126) (λ b. b ≡ stop → ⊥) (λ b i e. omega arith) bytes good
 
 -- words with spaces between them, and a space behind them, are words that a space ends
@@ -102,23 +102,23 @@ pieces_spaced ws g =
     sym (pieces_closed 32 (spaced ws) (trim_spaced ws g)) ∙ ap (pieces 32) (closed_spaced ws g)
     ∙ pieces_ended 32 ws (All-weaker GoodWord (Free 32) (λ w h. seen_free 32 (omega arith) w h.1) ws g.1)
 
-free_spaced : (ws : List Word) → All GoodWord ws → Free 10 (spaced ws)
+free_spaced : (ws : List Word) → AllByRecursion GoodWord ws → Free 10 (spaced ws)
 free_spaced [] g = tt
 free_spaced (w ∷ []) g = seen_free 10 (omega arith) w g.0.1
 free_spaced (w ∷ v ∷ vs) g =
     All-append (λ b. b ≡ 10 → ⊥) w _ (seen_free 10 (omega arith) w g.0.1) ((λ e. omega arith), free_spaced (v ∷ vs) g.1)
 
-free_lines : (lines : List (List Word)) → All GoodLine lines → All (Free 10) (map spaced lines)
+free_lines : (lines : List (List Word)) → AllByRecursion GoodLine lines → AllByRecursion (Free 10) (map spaced lines)
 free_lines [] g = tt
 free_lines (line ∷ lines) g = (free_spaced line g.0.1, free_lines lines g.1)
 
-respaced : (lines : List (List Word)) → All GoodLine lines → map (pieces 32) (map spaced lines) ≡ lines
+respaced : (lines : List (List Word)) → AllByRecursion GoodLine lines → map (pieces 32) (map spaced lines) ≡ lines
 respaced [] g = refl
 respaced (line ∷ lines) g = (λ i. pieces_spaced line g.0 i ∷ respaced lines g.1 i)
 
 -- the lines of the text of good lines are those lines
-pieces_text : (lines : List (List Word)) → All GoodLine lines → pieces 10 (text_of lines) ≡ map spaced lines
+pieces_text : (lines : List (List Word)) → AllByRecursion GoodLine lines → pieces 10 (text_of lines) ≡ map spaced lines
 pieces_text lines g = pieces_ended 10 (map spaced lines) (free_lines lines g)
 
-pub words_text : (lines : List (List Word)) → All GoodLine lines → map (pieces 32) (pieces 10 (text_of lines)) ≡ lines
+pub words_text : (lines : List (List Word)) → AllByRecursion GoodLine lines → map (pieces 32) (pieces 10 (text_of lines)) ≡ lines
 words_text lines g = ap (map (pieces 32)) (pieces_text lines g) ∙ respaced lines g

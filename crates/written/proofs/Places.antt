@@ -1,6 +1,6 @@
 -- The name lines: where the names stand in the text.
 use Rattle.std.proofs.Common.{◌≡◌, ℕ, ◌+◌, ◌-◌, ◌<◌, ◌≤◌, min, List, [], ◌∷◌, ◌++◌, map, length, take, drop, Ok, Result, sym, refl, ap, ◌∙◌, arith}
-use Rattle.std.specs.List.{AllByRecursion as All}
+use Rattle.std.specs.List.{AllByRecursion}
 use Rattle.std.proofs.lemmas.List.{append-nil, append_assoc, length-append, length-drop, length_push, drop-drop, drop_at, take_at, take_all, map_push}
 use Rattle.std.proofs.lemmas.Bool.{cond-true, le-leb}
 use Rattle.tables.specs.declared.table.Place.{Place}
@@ -50,7 +50,7 @@ module _ (text : List ℕ) where
   past_line from line rest e = sym (drop-drop (length line + 1) from text) ∙ ap (drop (length line + 1)) e ∙ drop_at (line ++ 10 ∷ []) rest (length line + 1) (length_push line 10)
 
   -- names that stand one to a line are those at their places
-  pub names_at : (from : ℕ) (names : List Word) (rest : List ℕ) → All LawfulName names → drop from text ≡ ended 10 names ++ rest → names_of text (places_from from names) ≡ names
+  pub names_at : (from : ℕ) (names : List Word) (rest : List ℕ) → AllByRecursion LawfulName names → drop from text ≡ ended 10 names ++ rest → names_of text (places_from from names) ≡ names
   names_at from [] rest lawful e = refl
   names_at from (n ∷ names) rest lawful e =
       let here : drop from text ≡ (n ++ 10 ∷ []) ++ (ended 10 names ++ rest) = e ∙ append_assoc (n ++ 10 ∷ []) (ended 10 names) rest in
@@ -62,7 +62,7 @@ module _ (text : List ℕ) where
     pub named : names_of text places ≡ before
     pub few : length places + length lines ≤ 64
     pub left : drop from text ≡ ended 10 (map bytes_of lines) ++ rest
-    pub spaces : All Spaced lines
+    pub spaces : AllByRecursion Spaced lines
 
   module _ (from : ℕ) (before : List Word) (places : List Place) (line : Numbered) (lines : List Numbered) (rest : List ℕ) (so : Before from before places (line ∷ lines) rest) where
     known : names_of text (take 64 places) ≡ before

@@ -1,6 +1,6 @@
 -- Relay lines: the machine makes a row just of the words of a lawful relay line of an atom that has none yet.
 use Rattle.std.proofs.Common.{◌≡◌, ℕ, ◌<◌, true, false, cond, eqb, List, [], ◌∷◌, ◌++◌, map, length, Some, None, Ok, Err, codes, Option, sym, refl, ap, ◌∙◌, arith}
-use Rattle.std.specs.List.{flat_map, AllByRecursion as All}
+use Rattle.std.specs.List.{flat_map, AllByRecursion}
 use Rattle.std.proofs.lemmas.Bool.{cond-true, cond-false, or_parts, or_from, eqb-false, ne_eqb}
 use Rattle.tables.specs.declared.table.RelayLine.{RelayLine}
 use Rattle.tables.specs.Rows.{laid, has_room}
@@ -20,11 +20,11 @@ use Rattle.written.proofs.Words.{bang_says, atom_told, tells_atom}
 use Rattle.written.proofs.Runs.{run, run_step, step_run, Took, units_taken, units_put}
 
 -- an atom has no line where no line is its own
-pub no_line_told : (atom : ℕ) (xs : List RelayRow) → has_line atom (map relay_row xs) ≡ false → All (λ x. x.atom ≡ atom → ⊥) xs
+pub no_line_told : (atom : ℕ) (xs : List RelayRow) → has_line atom (map relay_row xs) ≡ false → AllByRecursion (λ x. x.atom ≡ atom → ⊥) xs
 no_line_told atom [] e = tt
 no_line_told atom (x ∷ xs) e = let parts = or_parts (eqb x.atom atom) (has_line atom (map relay_row xs)) e in (eqb-false x.atom atom parts.0, no_line_told atom xs parts.1)
 
-pub tells_no_line : (atom : ℕ) (xs : List RelayRow) → All (λ x. x.atom ≡ atom → ⊥) xs → has_line atom (map relay_row xs) ≡ false
+pub tells_no_line : (atom : ℕ) (xs : List RelayRow) → AllByRecursion (λ x. x.atom ≡ atom → ⊥) xs → has_line atom (map relay_row xs) ≡ false
 tells_no_line atom [] apart = refl
 tells_no_line atom (x ∷ xs) apart = or_from _ _ (ne_eqb x.atom atom apart.0) (tells_no_line atom xs apart.1)
 
@@ -109,7 +109,7 @@ module _ (names : List Word) (lines : List RelayLine) where
       let told = atom_told names w found.0 found.1 in
       rw told.0 (from_named found.0 told.1 found.2 ws r (ap (λ t. go t ws) found.3 ∙ step.2))
 
-  module _ (lawful : All LawfulName names) (once : NoneTwice names) where
+  module _ (lawful : AllByRecursion LawfulName names) (once : NoneTwice names) where
     put_one : (atom : ℕ) (xs : List ℕ) (x : ℕ) (rest : List Word) → length xs < 64 → Fits x → go (after atom xs) (spell x ++ rest) ≡ go (after atom (xs ++ x ∷ [])) rest
     put_one atom xs x rest h known =
         run_step (relay_next names lines) relay_done (after atom xs) (relay.Attackers (with_attacker (relay_of atom xs) x)) (name_at names x) rest

@@ -1,6 +1,6 @@
 -- Rule lines: the machine makes a row just of the words of a lawful rule.
 use Rattle.std.proofs.Common.{◌≡◌, ℕ, ◌<◌, ◌≤◌, true, false, cond, eqb, List, [], ◌∷◌, ◌++◌, length, Some, None, Ok, codes, decimal, Option, sym, refl, ap, ◌∙◌, arith}
-use Rattle.std.specs.List.{flat_map, AllByRecursion as All}
+use Rattle.std.specs.List.{flat_map, AllByRecursion}
 use Rattle.std.proofs.ByRecursion.{All-get_or}
 use Rattle.std.proofs.lemmas.Bool.{cond-true, cond-false, ne_eqb}
 use Rattle.tables.specs.declared.table.Item.{Item}
@@ -117,7 +117,7 @@ module _ (names : List Word) (loads : ℕ) where
     pub lawful : LawfulRule (length names) loads line
     pub rowed : rule_row line ≡ r
 
-  with_items : (head : ℕ) (known : head < length names) (xs : List Item) (ws : List Word) (r : Rule) → flat_map (item_words names) xs ≡ ws → All Fits xs → length xs ≤ 16 → rule_done (after head xs) ≡ Some r → RuleOf (name_at names head ∷ codes "if" ∷ ws) r
+  with_items : (head : ℕ) (known : head < length names) (xs : List Item) (ws : List Word) (r : Rule) → flat_map (item_words names) xs ≡ ws → AllByRecursion Fits xs → length xs ≤ 16 → rule_done (after head xs) ≡ Some r → RuleOf (name_at names head ∷ codes "if" ∷ ws) r
   with_items head known [] ws r is fits few ends = let none = none_yet head in no_way (cc)
   with_items head known (x ∷ xs) ws r is fits few ends =
       let some = some_now head x xs in
@@ -154,7 +154,7 @@ module _ (names : List Word) (loads : ℕ) where
 
   -- ---- what the machine takes
 
-  module _ (lawful : All LawfulName names) (once : NoneTwice names) (few : loads ≤ 1000000) where
+  module _ (lawful : AllByRecursion LawfulName names) (once : NoneTwice names) (few : loads ≤ 1000000) where
     module _ (head : ℕ) (xs : List Item) (rest : List Word) (h : length xs < 16) where
       abbrev r : Rule
       r = rule_of head xs
@@ -185,7 +185,7 @@ module _ (names : List Word) (loads : ℕ) where
           (ap (λ o. or_wrong o wrong.BadNumber (λ i. rule.Items (with_item r (item.Aggregate i)))) (tells_below loads load few known))
           ∙ ends (item.Aggregate load)
 
-    put_body : (head : ℕ) (xs : List Item) → length xs ≤ 16 → All Fits xs → go (rule.Headed head) (body_words names xs) ≡ Some (rule_of head xs)
+    put_body : (head : ℕ) (xs : List Item) → length xs ≤ 16 → AllByRecursion Fits xs → go (rule.Headed head) (body_words names xs) ≡ Some (rule_of head xs)
     put_body head [] h fits = refl
     put_body head (x ∷ xs) h fits =
         run_step (rule_next names loads) rule_done (rule.Headed head) (after head []) (codes "if") (flat_map (item_words names) (x ∷ xs)) refl

@@ -1,6 +1,6 @@
 -- A line's state machine over its words alone, without their spots; and one that takes unit after unit.
 use Rattle.std.proofs.Common.{◌≡◌, ℕ, zero, suc, ◌+◌, ◌<◌, ◌≤◌, List, [], ◌∷◌, ◌++◌, length, Some, None, Ok, Err, Option, Result, sym, refl, ap, ◌∙◌, arith}
-use Rattle.std.specs.List.{flat_map, AllByRecursion as All}
+use Rattle.std.specs.List.{flat_map, AllByRecursion}
 use Rattle.std.proofs.lemmas.List.{append_assoc, append-nil, length-append, length_push}
 use Rattle.faults.specs.declared.Spot.{Spot}
 use Rattle.faults.specs.declared.SheetFault.{SheetFault}
@@ -80,7 +80,7 @@ module _ {S R : Type 0} (next : S → Meaning → Result S Wrong) (done : S → 
     pub record Taken (us : List U) (ws : List Word) (r : R) : Type 0 where
       pub units : List U
       pub is : flat_map spell units ≡ ws
-      pub fits : All Fits units
+      pub fits : AllByRecursion Fits units
       pub few : length us + length units ≤ most
       pub ends : done (after (us ++ units)) ≡ Some r
 
@@ -107,7 +107,7 @@ module _ {S R : Type 0} (next : S → Meaning → Result S Wrong) (done : S → 
 
     module _ (put_one : (us : List U) (u : U) (rest : List Word) → length us < most → Fits u → run next done (after us) (spell u ++ rest) ≡ run next done (after (us ++ u ∷ [])) rest) where
       -- the words of units are taken
-      pub units_put : (us more : List U) → length us + length more ≤ most → All Fits more → run next done (after us) (flat_map spell more) ≡ done (after (us ++ more))
+      pub units_put : (us more : List U) → length us + length more ≤ most → AllByRecursion Fits more → run next done (after us) (flat_map spell more) ≡ done (after (us ++ more))
       units_put us [] few fits = ap (λ l. done (after l)) (sym (append-nil us))
       units_put us (u ∷ more) few fits =
           put_one us u (flat_map spell more) (omega arith) fits.0

@@ -1,6 +1,6 @@
 -- The load lines, the rule lines and the relay lines of a sheet.
 use Rattle.std.proofs.Common.{◌≡◌, ℕ, ◌≤◌, List, [], map, length, Ok, sym, ap, ◌∙◌}
-use Rattle.std.specs.List.{AllByRecursion as All}
+use Rattle.std.specs.List.{AllByRecursion}
 use Rattle.tables.specs.declared.table.Aggregate.{Aggregate}
 use Rattle.tables.specs.declared.table.Rule.{Rule}
 use Rattle.tables.specs.declared.table.RelayLine.{RelayLine}
@@ -32,7 +32,7 @@ module _ (names : List Word) where
       let x = load_told names (words line) r (line_runs (load_next names) load_done wrong.Misplaced load.Start line r e) in
       (x.line, x.spelt, x.lawful, x.rowed)
 
-  pub loads_told : (lines : List Numbered) (rows : List Aggregate) → rows_read (load_read names) [] lines ≡ Ok rows → (xs : List LoadLine) × (map (load_words names) xs ≡ map words lines) × All LoadFits xs × (map load_row xs ≡ rows)
+  pub loads_told : (lines : List Numbered) (rows : List Aggregate) → rows_read (load_read names) [] lines ≡ Ok rows → (xs : List LoadLine) × (map (load_words names) xs ≡ map words lines) × AllByRecursion LoadFits xs × (map load_row xs ≡ rows)
   loads_told lines rows e =
       let all = rows_told (load_read names) (load_words names) load_row (λ _ x. LoadFits x) one_load [] lines rows e in
       (all.made, all.spelt, all_of_follow LoadFits all.made all.lawful, all.rowed)
@@ -48,7 +48,7 @@ module _ (names : List Word) where
         let x = rule_told names loads (words line) r (line_runs (rule_next names loads) rule_done wrong.Misplaced rule.Start line r e) in
         (x.line, x.spelt, x.lawful, x.rowed)
 
-    pub rules_told : (lines : List Numbered) (rows : List Rule) → rows_read (rule_read names loads) [] lines ≡ Ok rows → (xs : List RuleLine) × (map (rule_words names) xs ≡ map words lines) × All RuleFits xs × (map rule_row xs ≡ rows)
+    pub rules_told : (lines : List Numbered) (rows : List Rule) → rows_read (rule_read names loads) [] lines ≡ Ok rows → (xs : List RuleLine) × (map (rule_words names) xs ≡ map words lines) × AllByRecursion RuleFits xs × (map rule_row xs ≡ rows)
     rules_told lines rows e =
         let all = rows_told (rule_read names loads) (rule_words names) rule_row (λ _ x. RuleFits x) one_rule [] lines rows e in
         (all.made, all.spelt, all_of_follow RuleFits all.made all.lawful, all.rowed)
@@ -66,7 +66,7 @@ module _ (names : List Word) where
       let x = relay_told names (map relay_row before) (words line) r (line_runs (relay_next names (map relay_row before)) relay_done wrong.Misplaced relay.Start line r e) in
       (x.line, x.spelt, (x.lawful, no_line_told x.line.atom before x.first), x.rowed)
 
-  pub relays_told : (lines : List Numbered) (rows : List RelayLine) → rows_read (relay_read names) [] lines ≡ Ok rows → (xs : List RelayRow) × (map (relay_words names) xs ≡ map words lines) × All RelayFits xs × NoneTwice (map atom_of xs) × (map relay_row xs ≡ rows)
+  pub relays_told : (lines : List Numbered) (rows : List RelayLine) → rows_read (relay_read names) [] lines ≡ Ok rows → (xs : List RelayRow) × (map (relay_words names) xs ≡ map words lines) × AllByRecursion RelayFits xs × NoneTwice (map atom_of xs) × (map relay_row xs ≡ rows)
   relays_told lines rows e =
       let all = rows_told (relay_read names) (relay_words names) relay_row (New RelayFits atom_of) one_relay [] lines rows e in
       let once = once_of_follow RelayFits atom_of all.made all.lawful in
@@ -74,20 +74,20 @@ module _ (names : List Word) where
 
   -- ---- and back
 
-  module _ (lawful : All LawfulName names) (once : NoneTwice names) where
-    pub loads_tell : (xs : List LoadLine) (lines : List Numbered) → map (load_words names) xs ≡ map words lines → All LoadFits xs → rows_read (load_read names) [] lines ≡ Ok (map load_row xs)
+  module _ (lawful : AllByRecursion LawfulName names) (once : NoneTwice names) where
+    pub loads_tell : (xs : List LoadLine) (lines : List Numbered) → map (load_words names) xs ≡ map words lines → AllByRecursion LoadFits xs → rows_read (load_read names) [] lines ≡ Ok (map load_row xs)
     loads_tell xs lines e each =
         rows_tell (load_read names) (load_words names) load_row (λ _ x. LoadFits x)
         (λ before line x spelt h. runs_line (load_next names) load_done wrong.Misplaced load.Start line (load_row x) (ap (run (load_next names) load_done load.Start) (sym spelt) ∙ load_tells names lawful once x h))
         [] xs lines e (follow_of_all LoadFits [] xs each)
 
-    pub rules_tell : (loads : ℕ) → loads ≤ 1000000 → (xs : List RuleLine) (lines : List Numbered) → map (rule_words names) xs ≡ map words lines → All (RuleFits loads) xs → rows_read (rule_read names loads) [] lines ≡ Ok (map rule_row xs)
+    pub rules_tell : (loads : ℕ) → loads ≤ 1000000 → (xs : List RuleLine) (lines : List Numbered) → map (rule_words names) xs ≡ map words lines → AllByRecursion (RuleFits loads) xs → rows_read (rule_read names loads) [] lines ≡ Ok (map rule_row xs)
     rules_tell loads few xs lines e each =
         rows_tell (rule_read names loads) (rule_words names) rule_row (λ _ x. RuleFits loads x)
         (λ before line x spelt h. runs_line (rule_next names loads) rule_done wrong.Misplaced rule.Start line (rule_row x) (ap (run (rule_next names loads) rule_done rule.Start) (sym spelt) ∙ rule_tells names loads lawful once few x h))
         [] xs lines e (follow_of_all (RuleFits loads) [] xs each)
 
-    pub relays_tell : (xs : List RelayRow) (lines : List Numbered) → map (relay_words names) xs ≡ map words lines → All RelayFits xs → NoneTwice (map atom_of xs) → rows_read (relay_read names) [] lines ≡ Ok (map relay_row xs)
+    pub relays_tell : (xs : List RelayRow) (lines : List Numbered) → map (relay_words names) xs ≡ map words lines → AllByRecursion RelayFits xs → NoneTwice (map atom_of xs) → rows_read (relay_read names) [] lines ≡ Ok (map relay_row xs)
     relays_tell xs lines e each apart =
         rows_tell (relay_read names) (relay_words names) relay_row (New RelayFits atom_of)
         (λ before line x spelt h. runs_line (relay_next names (map relay_row before)) relay_done wrong.Misplaced relay.Start line (relay_row x)

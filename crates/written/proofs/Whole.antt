@@ -1,6 +1,6 @@
 -- The lines of a text are read into a table just where they are those of a lawful sheet that has this table.
 use Rattle.std.proofs.Common.{◌≡◌, ℕ, suc, ◌+◌, ◌≤◌, eqb, List, [], ◌∷◌, ◌++◌, map, length, take, drop, Ok, Result, sym, refl, ap, ◌∙◌, subst, add-zero, arith}
-use Rattle.std.specs.List.{AllByRecursion as All}
+use Rattle.std.specs.List.{AllByRecursion}
 use Rattle.std.proofs.ByRecursion.{All-take, All-drop}
 use Rattle.std.proofs.lemmas.List.{map-append, map-id, append_assoc, length-append, length-map, length-take, length-drop, length_push, take-append-drop, take_all, take-map, drop-map, drop_at}
 use Rattle.std.proofs.lemmas.Bool.{cond-true, eq-eqb, eqb-true}
@@ -32,7 +32,7 @@ past_length from (line ∷ lines) =
     past_length (from + (length line.bytes + 1)) lines
     ∙ omega (arith, length-append (line.bytes ++ 10 ∷ []) (ended 10 (map bytes_of lines)), length_push line.bytes 10)
 
-pub spaced_bytes : (lines : List Numbered) → All Spaced lines → map spaced (map words lines) ≡ map bytes_of lines
+pub spaced_bytes : (lines : List Numbered) → AllByRecursion Spaced lines → map spaced (map words lines) ≡ map bytes_of lines
 spaced_bytes [] h = refl
 spaced_bytes (line ∷ lines) h = (λ i. h.0 i ∷ spaced_bytes lines h.1 i)
 
@@ -66,9 +66,9 @@ record RestOf (names : List Word) (c : Counts) (places : List Place) (lines : Li
   loads_spelt : map (load_words names) loads ≡ map words (take c.loads lines)
   rules_spelt : map (rule_words names) rules ≡ map words (take c.rules (drop c.loads lines))
   relays_spelt : map (relay_words names) relays ≡ map words (drop (c.loads + c.rules) lines)
-  loads_lawful : All (LawfulLoad (length names)) loads
-  rules_lawful : All (LawfulRule (length names) c.loads) rules
-  relays_lawful : All (LawfulRelay (length names)) relays
+  loads_lawful : AllByRecursion (LawfulLoad (length names)) loads
+  rules_lawful : AllByRecursion (LawfulRule (length names) c.loads) rules
+  relays_lawful : AllByRecursion (LawfulRelay (length names)) relays
   relays_differ : NoneTwice (map (λ x. x.atom) relays)
   filled : table_of c.marks places (map load_row loads) (map rule_row rules) (map relay_row relays) ≡ t
 
@@ -101,7 +101,7 @@ pub record SheetOf (lines : List Numbered) (t : Table) : Type 0 where
   pub spelt : sheet_lines sheet ≡ map words lines
   pub filled : table_for sheet ≡ t
 
-module _ (text : List ℕ) (lines : List Numbered) (laid : ended 10 (map bytes_of lines) ≡ text) (spaces : All Spaced lines) where
+module _ (text : List ℕ) (lines : List Numbered) (laid : ended 10 (map bytes_of lines) ≡ text) (spaces : AllByRecursion Spaced lines) where
   -- where the names begin
   abbrev begin : ℕ
   begin = past_lines 0 (take 4 lines)
@@ -138,7 +138,7 @@ module _ (text : List ℕ) (lines : List Numbered) (laid : ended 10 (map bytes_o
     }
 
     -- the names at their places are the names that the lines write
-    names_known : (names : List Word) → map single names ≡ map words name_lines → All LawfulName names → m ≤ 64 → names_of text (take 64 (places_from begin names)) ≡ names
+    names_known : (names : List Word) → map single names ≡ map words name_lines → AllByRecursion LawfulName names → m ≤ 64 → names_of text (take 64 (places_from begin names)) ≡ names
     names_known names e lawful few =
         let here : map bytes_of name_lines ≡ names = sym (spaced_bytes name_lines (All-take Spaced m (drop 4 lines) (All-drop Spaced 4 lines spaces))) ∙ ap (map spaced) (sym e) ∙ spaced_single names in
         let short : length names ≤ 64 = omega (arith, same_length single names name_lines e, length-take m (drop 4 lines)) in
@@ -151,7 +151,7 @@ module _ (text : List ℕ) (lines : List Numbered) (laid : ended 10 (map bytes_o
     abbrev rest : List Numbered
     rest = drop (4 + c.marks) lines
 
-    assembled : (names : List Word) → map single names ≡ map words (name_lines c.marks) → All LawfulName names → NoneTwice names → RestOf names c (places_from begin names) rest t → SheetOf lines t
+    assembled : (names : List Word) → map single names ≡ map words (name_lines c.marks) → AllByRecursion LawfulName names → NoneTwice names → RestOf names c (places_from begin names) rest t → SheetOf lines t
     assembled names spelt lawful once below =
         let marks : length names ≡ c.marks = same_length single names _ spelt ∙ length-take c.marks (drop 4 lines) ∙ omega (arith, length-drop 4 lines) in
         let left : length rest ≡ c.loads + c.rules + c.relays = length-drop (4 + c.marks) lines ∙ omega arith in
@@ -161,7 +161,7 @@ module _ (text : List ℕ) (lines : List Numbered) (laid : ended 10 (map bytes_o
         let sheet : Sheet = record { names = names; loads = below.loads; rules = below.rules; relays = below.relays } in
         let same : counts_of sheet ≡ c = (λ i. record { marks = marks i; loads = loads i; rules = rules i; relays = relays i }) in
         let contents : contents_words sheet ≡ map words (take 4 lines) = ap count_lines same ∙ heads in
-        let R : ℕ → Type 0 = λ n. All (LawfulRule (length names) n) below.rules in
+        let R : ℕ → Type 0 = λ n. AllByRecursion (LawfulRule (length names) n) below.rules in
         record {
           sheet = sheet;
           lawful = record {

@@ -3,7 +3,7 @@ use Rattle.std.proofs.Common.{◌≡◌, ℕ, ◌<◌, ◌≤◌, Bool, true, fa
 use lib.Signed.{le_z, mag}
 use Rattle.std.specs.Int.{IsInRange}
 use Rattle.std.specs.Fmt.{signed_decimal}
-use Rattle.std.specs.List.{AllByRecursion as All}
+use Rattle.std.specs.List.{AllByRecursion}
 use Rattle.std.specs.Str.{bytes_eq}
 use Rattle.std.proofs.ByRecursion.{All-get_or}
 use Rattle.std.proofs.lemmas.Slice.Eq.{bytes_eq-Decides}
@@ -40,7 +40,7 @@ key_word key.AtLeast = codes ">="
 key_word key.Equal = codes "="
 key_word key.Unequal = codes "!="
 
-among_says : (ks : List (List ℕ × Key)) (w : Word) (k : Key) → All (λ p. p.0 ≡ key_word p.1) ks → key_among ks w ≡ Some k → w ≡ key_word k
+among_says : (ks : List (List ℕ × Key)) (w : Word) (k : Key) → AllByRecursion (λ p. p.0 ≡ key_word p.1) ks → key_among ks w ≡ Some k → w ≡ key_word k
 among_says [] w k h e = no_way (cc)
 among_says (p ∷ ps) w k h e =
     elim (bytes_eq w p.0) as (λ t. bytes_eq w p.0 ≡ t → cond t (Some p.1) (key_among ps w) ≡ Some k → w ≡ key_word k) [
@@ -48,7 +48,7 @@ among_says (p ∷ ps) w k h e =
       | false ↦ λ s q. among_says ps w k h.1 q
     ] refl e
 
-no_key : (ks : List (List ℕ × Key)) (w : Word) → All (λ p. w ≡ p.0 → ⊥) ks → key_among ks w ≡ None
+no_key : (ks : List (List ℕ × Key)) (w : Word) → AllByRecursion (λ p. w ≡ p.0 → ⊥) ks → key_among ks w ≡ None
 no_key [] w h = refl
 no_key (p ∷ ps) w h = cond-false _ _ _ (differs w p.0 h.0) ∙ no_key ps w h.1
 
@@ -256,7 +256,7 @@ atom_told names w i e =
     let same : i ≡ here.0 = omega (arith, here.1) in
     ((name_told w found.0 found.1).1 ∙ sym here.3 ∙ ap (name_at names) (sym same), omega (arith, here.2))
 
-pub tells_atom : (names : List Word) (i : ℕ) → All LawfulName names → NoneTwice names → i < length names → atom_said names (meaning (name_at names i)) ≡ Some i
+pub tells_atom : (names : List Word) (i : ℕ) → AllByRecursion LawfulName names → NoneTwice names → i < length names → atom_said names (meaning (name_at names i)) ≡ Some i
 tells_atom names i lawful once h =
     ap (atom_said names) (says_name (name_at names i) (All-get_or LawfulName names i [] h lawful))
     ∙ some_among 0 names i once h ∙ ap Some (zero-add i)

@@ -1,7 +1,7 @@
 -- A sheet as what it says, apart from any text; and when it is lawful.
 use Rattle.std.specs.Prelude.{◌≡◌, ℕ, ◌<◌, ◌≤◌, ◌⊎◌, List, [], ◌∷◌, map, length, ℤ, pos, negsuc, ◌≤ℤ◌, codes, ◌≢◌, slice_index}
 use Rattle.std.specs.Int.{IsInRange}
-use Rattle.std.specs.List.{AllByRecursion as All}
+use Rattle.std.specs.List.{AllByRecursion}
 use Rattle.tables.specs.declared.table.Comparison.{Comparison}
 use Rattle.tables.specs.declared.table.Kind.{Kind}
 use Rattle.tables.specs.declared.table.Kind.TheVariants.{Sum, Count}
@@ -36,7 +36,7 @@ pub record Sheet : Type 0 where
 -- No two of these are the same.
 abbrev pub NoneTwice : {A : Type 0} → List A → Type 0
 NoneTwice [] = Unit {0}
-NoneTwice (x ∷ xs) = All (λ y. x ≢ y) xs × NoneTwice xs
+NoneTwice (x ∷ xs) = AllByRecursion (λ y. x ≢ y) xs × NoneTwice xs
 
 -- A name is written with a to z, 0 to 9 and the underscore.
 abbrev pub NameByte : ℕ → Type 0
@@ -51,8 +51,8 @@ pub record LawfulName (name : List ℕ) : Type 0 where
   pub some : 1 ≤ length name
   pub short : length name ≤ 16
   pub begins : IsInRange 97 122 (slice_index name 0)
-  pub bytes : All NameByte name
-  pub free : All (λ word. word ≢ name) reserved
+  pub bytes : AllByRecursion NameByte name
+  pub free : AllByRecursion (λ word. word ≢ name) reserved
 
 -- A weight is from -10000 to 10000, and in a count it is 1.
 abbrev pub LawfulWeight : Kind → ℤ → Type 0
@@ -69,7 +69,7 @@ pub record LawfulLoad (atoms : ℕ) (load : LoadLine) : Type 0 where
   pub least : negsuc 999999 ≤ℤ load.limit
   pub most : load.limit ≤ℤ pos 1000000
   pub few : length load.entries ≤ 16
-  pub each : All (LawfulEntry atoms load.kind) load.entries
+  pub each : AllByRecursion (LawfulEntry atoms load.kind) load.entries
 
 -- An item names one of so many atoms or one of so many loads, which are numbered from 0.
 abbrev pub LawfulItem : ℕ → ℕ → Item → Type 0
@@ -81,24 +81,24 @@ LawfulItem atoms loads (Aggregate load) = load < loads
 pub record LawfulRule (atoms loads : ℕ) (rule : RuleLine) : Type 0 where
   pub known : rule.head < atoms
   pub few : length rule.items ≤ 16
-  pub each : All (LawfulItem atoms loads) rule.items
+  pub each : AllByRecursion (LawfulItem atoms loads) rule.items
 
 -- A relay line is about one of so many atoms, and at most 64 of them attack it.
 pub record LawfulRelay (atoms : ℕ) (relay : RelayRow) : Type 0 where
   pub known : relay.atom < atoms
   pub few : length relay.attackers ≤ 64
-  pub each : All (λ atom. atom < atoms) relay.attackers
+  pub each : AllByRecursion (λ atom. atom < atoms) relay.attackers
 
 -- A lawful sheet has 1 to 64 atoms with names that differ, at most 32 loads, 128 rules and 64 relay lines, each lawful, and at most one relay line for an atom.
 pub record LawfulSheet (sheet : Sheet) : Type 0 where
   pub some_names : 1 ≤ length sheet.names
   pub few_names : length sheet.names ≤ 64
-  pub names : All LawfulName sheet.names
+  pub names : AllByRecursion LawfulName sheet.names
   pub names_differ : NoneTwice sheet.names
   pub few_loads : length sheet.loads ≤ 32
-  pub loads : All (LawfulLoad (length sheet.names)) sheet.loads
+  pub loads : AllByRecursion (LawfulLoad (length sheet.names)) sheet.loads
   pub few_rules : length sheet.rules ≤ 128
-  pub rules : All (LawfulRule (length sheet.names) (length sheet.loads)) sheet.rules
+  pub rules : AllByRecursion (LawfulRule (length sheet.names) (length sheet.loads)) sheet.rules
   pub few_relays : length sheet.relays ≤ 64
-  pub relays : All (LawfulRelay (length sheet.names)) sheet.relays
+  pub relays : AllByRecursion (LawfulRelay (length sheet.names)) sheet.relays
   pub relays_differ : NoneTwice (map (λ relay. relay.atom) sheet.relays)
