@@ -1,4 +1,4 @@
--- What a cut_out means.
+-- What a cut-out means.
 use Rattle.std.specs.Prelude.{ℕ}
 use Rattle.atoms.specs.Sets.{lacking, clipped}
 use Rattle.approx.specs.Meanings.{Meaning}
