@@ -14,9 +14,25 @@ is refused because a fact no longer holds. What each changes (written by `tools/
 """
 
 
-def cell(text, word):
-    found = re.search(rf"^{word}: *(.*)$", text, re.M).group(1).strip()
-    return "`" + found.replace("|", "\\|") + "`"
+def quoted(text):
+    return "`" + text.replace("|", "\\|") + "`"
+
+
+def pairs(said):
+    return list(zip(*(re.findall(rf"^{word}: *(.*)$", said, re.M) for word in ("old", "new"))))
+
+
+def cells(crate, said):
+    """What an edit takes away and what it puts there: its one pair, or of several the lines that differ in the end."""
+    changes = pairs(said)
+    if len(changes) > 1:
+        with open(os.path.join(ROOT, "crates", crate, re.search(r"^file: *(.*)$", said, re.M).group(1))) as source:
+            old = new = source.read()
+        for was, becomes in changes:
+            new = new.replace(was, becomes)
+        lines = zip(old.split("\n"), new.split("\n"))
+        changes = [(was, becomes) for was, becomes in lines if was != becomes]
+    return [" then ".join(quoted(side.strip()) for side in column) for column in zip(*changes)]
 
 
 def crates():
@@ -35,7 +51,7 @@ def main():
         for edit in edits:
             with open(edit) as lines:
                 said = lines.read()
-            text += f"| {os.path.basename(edit)[:-5]} | {cell(said, 'old')} | {cell(said, 'new')} |\n"
+            text += f"| {os.path.basename(edit)[:-5]} | {' | '.join(cells(crate, said))} |\n"
     with open(PAGE, "w") as page:
         page.write(text)
 
