@@ -2,6 +2,7 @@ pub mod Conditions
 pub mod Sums
 pub mod Aggregates
 pub mod Readings
+pub mod Laws
 pub mod Bounding
 pub mod Spanning
 pub mod Narrowing

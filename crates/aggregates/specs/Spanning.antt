@@ -1,15 +1,15 @@
 -- The least and the greatest sum: narrower bounds bring them nearer, and where no entry is open they are the sum.
-use Rattle.std.specs.Prelude.{◌≡◌, ℕ, ◌+◌, ◌<◌, ◌≤◌, Bool, true, false, ◌||◌, ◌⊎◌, List, [], ◌∷◌, length, drop, ℤ, pos, ◌+ℤ◌, ◌≤ℤ◌, fold, slice_index_or, refl}
+use Rattle.std.specs.Prelude.{◌≡◌, ℕ, Bool, false, ◌⊎◌, List, [], ◌∷◌, ℤ, pos, ◌+ℤ◌, ◌≤ℤ◌, fold, refl}
 use Rattle.std.proofs.Common.{sym, ◌∙◌, ap, subst, inl, inr, arith}
-use Rattle.std.proofs.lemmas.List.{at_drop_more, at_drop_all}
 use Rattle.std.proofs.lemmas.Int.{ints, clamps}
 use Rattle.std.proofs.lemmas.Bool.{true≢false, or_parts, or_from}
+use Rattle.std.specs.List.{list_any}
 use Rattle.atoms.specs.Sets.{Within}
 use Rattle.tables.specs.declared.table.Entry.{Entry}
 use Rattle.aggregates.specs.declared.condition.Condition.{Condition}
 use Rattle.aggregates.specs.declared.condition.Condition.TheVariants.{Met, Failed, Open}
 use Rattle.aggregates.specs.Conditions.{condition, undecided}
-use Rattle.aggregates.specs.Sums.{total, some, given, least, most, given_by, least_of, most_of, met_sum, low_sum, high_sum, some_open}
+use Rattle.aggregates.specs.Sums.{total, given, least, most, given_by, least_of, most_of, met_sum, low_sum, high_sum, some_open}
 use Rattle.aggregates.specs.Narrowing.{condition_stays, condition_decided}
 
 -- ---- one weight
@@ -65,13 +65,13 @@ total_le f g h es = sums_le f g h (pos 0) (pos 0) (omega (arith, ints)) es
 
 -- entries of which none passes a test, and that give the same where they do not
 module _ (f g : Entry → ℤ) (p : Entry → Bool) (h : (e : Entry) → p e ≡ false → f e ≡ g e) where
-  sums_same : (a : ℤ) (es : List Entry) → some p es ≡ false → fold (λ s e. s +ℤ f e) a es ≡ fold (λ s e. s +ℤ g e) a es
+  sums_same : (a : ℤ) (es : List Entry) → list_any p es ≡ false → fold (λ s e. s +ℤ f e) a es ≡ fold (λ s e. s +ℤ g e) a es
   sums_same a [] n = refl
   sums_same a (e ∷ es) n =
-      let q = or_parts (p e) (some p es) n in
+      let q = or_parts (p e) (list_any p es) n in
       ap (λ (x : ℤ). fold (λ s e. s +ℤ f e) (a +ℤ x) es) (h e q.0) ∙ sums_same (a +ℤ g e) es q.1
 
-  total_same : (es : List Entry) → some p es ≡ false → total f es ≡ total g es
+  total_same : (es : List Entry) → list_any p es ≡ false → total f es ≡ total g es
   total_same es n = sums_same (pos 0) es n
 
 -- ---- on one pair of bounds
@@ -88,20 +88,6 @@ high_decided es l u = total_same (λ e. most_of e l u) (λ e. given_by e l u) (�
 pub none_open : (es : List Entry) (z : ℕ) → some_open es z z ≡ false
 none_open [] z = refl
 none_open (e ∷ es) z = or_from (undecided (condition e z z)) (some_open es z z) (condition_decided e z) (none_open es z)
-
--- ---- the search for an open entry: what is left at i decides
-module _ (es : List Entry) (l u i : ℕ) where
-  at_drop : (d : Entry) → i < length es → some_open (drop i es) l u ≡ (undecided (condition (slice_index_or es i d) l u) || some_open (drop (i + 1) es) l u)
-  at_drop d h = at_drop_more (λ xs. some_open xs l u) es i d h
-
-  pub open_here : (d : Entry) → i < length es → undecided (condition (slice_index_or es i d) l u) ≡ true → some_open (drop i es) l u ≡ true
-  open_here d h e = at_drop d h ∙ ap (λ (b : Bool). b || some_open (drop (i + 1) es) l u) e
-
-  pub open_later : (d : Entry) → i < length es → undecided (condition (slice_index_or es i d) l u) ≡ false → some_open (drop i es) l u ≡ some_open (drop (i + 1) es) l u
-  open_later d h e = at_drop d h ∙ ap (λ (b : Bool). b || some_open (drop (i + 1) es) l u) e
-
-  pub open_never : length es ≤ i → some_open (drop i es) l u ≡ false
-  open_never h = at_drop_all (λ xs. some_open xs l u) es i h
 
 -- ---- on narrower bounds
 module _ {l k v u : ℕ} (lk : Within l k) (kv : Within k v) (vu : Within v u) where

@@ -1,6 +1,7 @@
 -- The sums that entries give on bounds.
-use Rattle.std.specs.Prelude.{ℕ, Bool, false, ◌||◌, List, [], ◌∷◌, ℤ, pos, ◌+ℤ◌, fold}
+use Rattle.std.specs.Prelude.{ℕ, Bool, List, ℤ, pos, ◌+ℤ◌, fold}
 use Rattle.std.specs.Int.{int_min, int_max}
+use Rattle.std.specs.List.{list_any}
 use Rattle.tables.specs.Rows.{in_use}
 use Rattle.tables.specs.declared.table.Entry.{Entry}
 use Rattle.tables.specs.declared.table.Aggregate.{Aggregate}
@@ -15,11 +16,6 @@ entries_of a = in_use 16 a.entries
 -- the sum of what each entry gives
 abbrev pub total : (Entry → ℤ) → List Entry → ℤ
 total f es = fold (λ s e. s +ℤ f e) (pos 0) es
-
--- some entry passes a test
-abbrev pub some : (Entry → Bool) → List Entry → Bool
-some p [] = false
-some p (e ∷ es) = p e || some p es
 
 -- a weight is given where the condition is met
 abbrev pub given : ℤ → Condition → ℤ
@@ -65,4 +61,4 @@ high_sum es l u = total (λ e. most_of e l u) es
 
 -- some entry is open
 abbrev pub some_open : List Entry → ℕ → ℕ → Bool
-some_open es l u = some (λ e. undecided (condition e l u)) es
+some_open es l u = list_any (λ e. undecided (condition e l u)) es

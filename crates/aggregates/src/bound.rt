@@ -1,6 +1,6 @@
 // The bound reading: it goes by the least and the greatest sum.
 ghost use Rattle.aggregates.specs.Readings.{bound_sure, bound_may};
-ghost use Rattle.aggregates.specs.Bounding.{bound_truth, bound_precise};
+ghost use Rattle.aggregates.specs.Bounding.{bound_laws};
 
 use super::comparing::{always, sometimes};
 use super::reading::Reading;
@@ -17,17 +17,15 @@ impl Reading for Bound {
 
     ghost may = { λ _ a l u. bound_may a l u };
 
-    ghost truth = { λ r a z. bound_truth a z };
-
-    ghost precise = { λ r a l k v u p q s. bound_precise a l k v u p q s };
+    ghost laws = { λ _. bound_laws };
 
     fn sure(&self, aggregate: &Aggregate, bounds: Bounds) -> bool {
-        let span = Span::of(aggregate.entries, bounds);
+        let span = Span::of(aggregate, bounds);
         always(aggregate.comparison, span, aggregate.limit)
     }
 
     fn may(&self, aggregate: &Aggregate, bounds: Bounds) -> bool {
-        let span = Span::of(aggregate.entries, bounds);
+        let span = Span::of(aggregate, bounds);
         sometimes(aggregate.comparison, span, aggregate.limit)
     }
 }

@@ -1,22 +1,9 @@
 // Sums held against a limit.
 ghost use Rattle.std.specs.Prelude.{◌≡◌};
-ghost use Rattle.aggregates.specs.Aggregates.{compares};
 ghost use Rattle.aggregates.specs.Readings.{always, sometimes};
 
 use super::sums::Span;
 use tables::table::Comparison;
-
-// Whether the sum compares so with the limit.
-pub(super) fn compares(comparison: Comparison, sum: i32, limit: i32) -> bool
-    ensures { result ≡ compares comparison sum limit }
-{
-    match comparison {
-        Comparison::AtMost => sum <= limit,
-        Comparison::AtLeast => sum >= limit,
-        Comparison::Equal => sum == limit,
-        Comparison::Unequal => sum != limit,
-    }
-}
 
 // Whether every number from low to high compares so.
 pub(super) fn always(comparison: Comparison, span: Span, limit: i32) -> bool
@@ -37,7 +24,7 @@ pub(super) fn sometimes(comparison: Comparison, span: Span, limit: i32) -> bool
     match comparison {
         Comparison::AtMost => span.low <= limit,
         Comparison::AtLeast => span.high >= limit,
-        Comparison::Equal => span.low <= limit && limit <= span.high,
+        Comparison::Equal => (span.low..=span.high).contains(&limit),
         Comparison::Unequal => span.low != limit || span.high != limit,
     }
 }

@@ -5,7 +5,7 @@ ghost use Rattle.aggregates.specs.Conditions.{condition, undecided};
 use atoms::{Bounds, State};
 use tables::table::Entry;
 
-#[derive(Clone, Copy)]
+#[derive(Clone, Copy, Debug, PartialEq, Eq)]
 pub enum Condition {
     Met,
     Failed,
@@ -14,8 +14,8 @@ pub enum Condition {
 
 impl Condition {
     // `a` is met if a is on and failed if a is off; `not a` is the reverse.
-    pub(super) fn of(entry: Entry, bounds: Bounds) -> Condition
-        ensures { result ≡ condition entry bounds.lower bounds.upper }
+    pub(super) fn of(entry: &Entry, bounds: Bounds) -> Condition
+        ensures { result ≡ condition entry.now bounds.lower bounds.upper }
     {
         match (bounds.state(entry.atom), entry.negated) {
             (State::On, false) | (State::Off, true) => Condition::Met,
@@ -28,9 +28,6 @@ impl Condition {
     pub(super) fn is_open(self) -> bool
         ensures { result ≡ undecided self }
     {
-        match self {
-            Condition::Met | Condition::Failed => false,
-            Condition::Open => true,
-        }
+        self == Condition::Open
     }
 }

@@ -1,8 +1,8 @@
 // How an aggregate is read on bounds: whether it surely holds, and whether it may hold.
-ghost use Rattle.std.specs.Prelude.{◌≡◌, ℕ, Bool, true, false};
+ghost use Rattle.std.specs.Prelude.{◌≡◌, ℕ, Bool};
 ghost use Rattle.atoms.specs.Sets.{Within};
 ghost use Rattle.tables.specs.declared.table.Aggregate.{Aggregate};
-ghost use Rattle.aggregates.specs.Aggregates.{holds};
+ghost use Rattle.aggregates.specs.Laws.{Laws};
 
 use atoms::Bounds;
 use tables::table::Aggregate;
@@ -22,9 +22,6 @@ pub trait Reading {
     fn may(&self, aggregate: &Aggregate, bounds: Bounds) -> bool
         ensures { Within bounds.lower bounds.upper → result ≡ may self.now aggregate.now bounds.lower bounds.upper };
 
-    // where lower and upper are equal, both say the truth
-    ghost truth: { (r : Self) (a : Aggregate) (z : ℕ) → (sure r a z z ≡ holds a z) × (may r a z z ≡ holds a z) };
-
-    // when the lower grows and the upper shrinks, still as bounds, sure stays yes and may stays no
-    ghost precise: { (r : Self) (a : Aggregate) (l k v u : ℕ) → Within l k → Within k v → Within v u → (sure r a l u ≡ true → sure r a k v ≡ true) × (may r a l u ≡ false → may r a k v ≡ false) };
+    // What each implementation proves of its meaning.
+    ghost laws: { (r : Self) → Laws (sure r) (may r) };
 }

@@ -1,42 +1,13 @@
 // The sums that the entries of an aggregate can give.
-ghost use Rattle.std.specs.Prelude.{◌≡◌};
-ghost use Rattle.tables.specs.Rows.{in_use};
-ghost use Rattle.aggregates.specs.Sums.{least_of, most_of, low_sum, high_sum, some_open};
+ghost use Rattle.std.specs.Prelude.{◌≡◌, FitsSigned};
+ghost use Rattle.std.specs.Int.{w16};
+ghost use Rattle.aggregates.specs.Sums.{entries_of, least_of, most_of, low_sum, high_sum, some_open};
 
 use super::condition::Condition;
 use atoms::Bounds;
-use tables::rows::Rows;
-use tables::table::Entry;
+use tables::table::{Aggregate, Entry};
 
-// The least and the most that an entry can give to the sum.
-#[derive(Clone, Copy)]
-struct Share {
-    least: i16,
-    most: i16,
-}
-
-impl Share {
-    // A met entry gives its weight and a failed one nothing; an open one may do either.
-    fn of(entry: Entry, bounds: Bounds) -> Share
-        ensures least { result.least ≡ least_of entry bounds.lower bounds.upper }
-        ensures most { result.most ≡ most_of entry bounds.lower bounds.upper }
-    {
-        let weight = entry.weight;
-        match Condition::of(entry, bounds) {
-            Condition::Met => Share {
-                least: weight,
-                most: weight,
-            },
-            Condition::Failed => Share { least: 0, most: 0 },
-            Condition::Open => Share {
-                least: weight.min(0),
-                most: weight.max(0),
-            },
-        }
-    }
-}
-
-// The least and the greatest sum that the entries can give.
+// The least and the greatest sum that entries can give.
 #[derive(Clone, Copy)]
 pub struct Span {
     pub low: i32,
@@ -44,31 +15,48 @@ pub struct Span {
 }
 
 impl Span {
-    // The sums that the entries can come to between the bounds. They are few, and their weights are small, so that no sum
-    // wraps: that they are few is known of entries by value, and not of a reference to them.
-    pub(super) fn of(entries: Rows<Entry, 16>, bounds: Bounds) -> Span
-        ensures low { result.low ≡ low_sum (in_use 16 entries) bounds.lower bounds.upper }
-        ensures high { result.high ≡ high_sum (in_use 16 entries) bounds.lower bounds.upper }
+    // Of one entry: a met one gives its weight and a failed one nothing; an open one may do either.
+    fn of_one(entry: &Entry, bounds: Bounds) -> Span
+        ensures low { result.low ≡ least_of entry.now bounds.lower bounds.upper }
+        ensures high { result.high ≡ most_of entry.now bounds.lower bounds.upper }
+        ensures small { FitsSigned w16 result.low × FitsSigned w16 result.high }
     {
-        let mut low: i32 = 0;
-        let mut high: i32 = 0;
-        for entry in entries.as_slice() {
-            let share = Share::of(*entry, bounds);
-            low += share.least as i32;
-            high += share.most as i32;
+        let weight = i32::from(entry.weight);
+        match Condition::of(entry, bounds) {
+            Condition::Met => Span {
+                low: weight,
+                high: weight,
+            },
+            Condition::Failed => Span { low: 0, high: 0 },
+            Condition::Open => Span {
+                low: weight.min(0),
+                high: weight.max(0),
+            },
+        }
+    }
+
+    // Of the aggregate between the bounds. Its entries are few, and their weights are small, so that no sum wraps.
+    pub(super) fn of(aggregate: &Aggregate, bounds: Bounds) -> Span
+        ensures low { result.low ≡ low_sum (entries_of aggregate.now) bounds.lower bounds.upper }
+        ensures high { result.high ≡ high_sum (entries_of aggregate.now) bounds.lower bounds.upper }
+    {
+        let (mut low, mut high) = (0, 0);
+        for entry in aggregate.entries.as_slice() {
+            let one = Span::of_one(entry, bounds);
+            low += one.low;
+            high += one.high;
         }
         Span { low, high }
     }
 }
 
-// Whether the bounds leave one of the entries open.
-pub(super) fn leaves_open(entries: Rows<Entry, 16>, bounds: Bounds) -> bool
-    ensures { result ≡ some_open (in_use 16 entries) bounds.lower bounds.upper }
+// Whether the bounds leave one of its entries open.
+pub(super) fn leaves_open(aggregate: &Aggregate, bounds: Bounds) -> bool
+    ensures { result ≡ some_open (entries_of aggregate.now) bounds.lower bounds.upper }
 {
-    for entry in entries.as_slice() {
-        if Condition::of(*entry, bounds).is_open() {
-            return true;
-        }
-    }
-    false
+    aggregate
+        .entries
+        .as_slice()
+        .iter()
+        .any(|entry| Condition::of(entry, bounds).is_open())
 }

@@ -2,8 +2,8 @@
 use Rattle.std.proofs.Common.{◌≡◌, ℕ, ◌^◌, ◌<◌, ◌≤◌, sym, ◌∙◌, subst, mod-lt, pow_pos}
 use Rattle.atoms.specs.Sets.{Within, clipped}
 use Rattle.atoms.proofs.Inclusion.{within_refl, within_trans, within_eq, within_mod}
-use Rattle.approx.specs.Meanings.{Meaning, meaning}
-use Rattle.approx.specs.declared.approximator.Approximator.{Ghosts}
+use Rattle.approx.specs.Laws.{Laws}
+use Rattle.approx.specs.Meanings.{Meaning}
 
 -- a meaning that keeps the laws, on all bounds
 pub record Lawful (m : Meaning) : Type 0 where
@@ -13,40 +13,44 @@ pub record Lawful (m : Meaning) : Type 0 where
   pub below : (l u : ℕ) → Within l u → (m.sure l u < 2 ^ m.width) × (m.may l u < 2 ^ m.width)
   pub ignores : (l u : ℕ) → Within (clipped m.width l) (clipped m.width u) → (m.sure l u ≡ m.sure (clipped m.width l) (clipped m.width u)) × (m.may l u ≡ m.may (clipped m.width l) (clipped m.width u))
 
-module _ {X : Type 0} (G : Ghosts X)
-    (wide : (a : X) → (0 < G.width a) × (G.width a ≤ 64))
-    (exact : (a : X) (z : ℕ) → z < 2 ^ G.width a → G.sure a z z ≡ G.may a z z)
-    (precise : (a : X) (l k v u : ℕ) → Within l k → Within k v → Within v u → u < 2 ^ G.width a → Within (G.sure a l u) (G.sure a k v) × Within (G.may a k v) (G.may a l u))
-    (below : (a : X) (l u : ℕ) → Within l u → u < 2 ^ G.width a → (G.sure a l u < 2 ^ G.width a) × (G.may a l u < 2 ^ G.width a))
-    (ignores : (a : X) (l u : ℕ) → Within (clipped (G.width a) l) (clipped (G.width a) u) → (G.sure a l u ≡ G.sure a (clipped (G.width a) l) (clipped (G.width a) u)) × (G.may a l u ≡ G.may a (clipped (G.width a) l) (clipped (G.width a) u)))
-    (a : X) where
-  cut : ℕ → ℕ
-  cut s = clipped (G.width a) s
+module _ {w : ℕ} {sure may : ℕ → ℕ → ℕ} (laws : Laws w sure may) where
+  abbrev cut : ℕ → ℕ
+  cut s = clipped w s
 
-  small : (s : ℕ) → clipped (G.width a) s < 2 ^ G.width a
-  small s = mod-lt s (pow_pos (G.width a))
+  small : (s : ℕ) → cut s < 2 ^ w
+  small s = mod-lt s (pow_pos w)
 
-  inside : {s t : ℕ} → Within s t → Within (clipped (G.width a) s) (clipped (G.width a) t)
-  inside p = within_mod (G.width a) p
+  inside : {s t : ℕ} → Within s t → Within (cut s) (cut t)
+  inside p = within_mod w p
 
-  exact_all : (z : ℕ) → G.sure a z z ≡ G.may a z z
+  exact_all : (z : ℕ) → sure z z ≡ may z z
   exact_all z =
-      let i = ignores a z z (within_refl (clipped (G.width a) z)) in
-      i.0 ∙ exact a (clipped (G.width a) z) (small z) ∙ sym i.1
+      let i = laws.ignores z z (within_refl (cut z)) in
+      i.0 ∙ laws.exact (cut z) (small z) ∙ sym i.1
 
-  precise_all : (l k v u : ℕ) → Within l k → Within k v → Within v u → Within (G.sure a l u) (G.sure a k v) × Within (G.may a k v) (G.may a l u)
+  precise_all : (l k v u : ℕ) → Within l k → Within k v → Within v u → Within (sure l u) (sure k v) × Within (may k v) (may l u)
   precise_all l k v u p q r =
-      let x = ignores a l u (inside (within_trans p (within_trans q r))) in
-      let y = ignores a k v (inside q) in
-      let t = precise a (clipped (G.width a) l) (clipped (G.width a) k) (clipped (G.width a) v) (clipped (G.width a) u) (inside p) (inside q) (inside r) (small u) in
+      let x = laws.ignores l u (inside (within_trans p (within_trans q r))) in
+      let y = laws.ignores k v (inside q) in
+      let t = laws.precise (cut l) (cut k) (cut v) (cut u) (inside p) (inside q) (inside r) (small u) in
       (within_trans (within_eq x.0) (within_trans t.0 (within_eq (sym y.0))), within_trans (within_eq y.1) (within_trans t.1 (within_eq (sym x.1))))
 
-  below_all : (l u : ℕ) → Within l u → (G.sure a l u < 2 ^ G.width a) × (G.may a l u < 2 ^ G.width a)
+  below_all : (l u : ℕ) → Within l u → (sure l u < 2 ^ w) × (may l u < 2 ^ w)
   below_all l u p =
-      let x = ignores a l u (inside p) in
-      let t = below a (clipped (G.width a) l) (clipped (G.width a) u) (inside p) (small u) in
-      (subst (λ (s : ℕ). s < 2 ^ G.width a) (sym x.0) t.0, subst (λ (s : ℕ). s < 2 ^ G.width a) (sym x.1) t.1)
+      let x = laws.ignores l u (inside p) in
+      let t = laws.below (cut l) (cut u) (inside p) (small u) in
+      (subst (λ (s : ℕ). s < 2 ^ w) (sym x.0) t.0, subst (λ (s : ℕ). s < 2 ^ w) (sym x.1) t.1)
 
-  -- the meaning of every value of an implementation keeps the laws
-  pub lawful : Lawful (meaning G a)
-  lawful = record { wide = wide a; exact = exact_all; precise = precise_all; below = below_all; ignores = ignores a }
+  -- whatever keeps the laws keeps them on all bounds
+  pub lawful : Lawful (record { width = w; sure = sure; may = may })
+  lawful = record { wide = laws.wide; exact = exact_all; precise = precise_all; below = below_all; ignores = laws.ignores }
+
+-- and the other way round, which is more than is asked
+pub asked : {m : Meaning} → Lawful m → Laws m.width m.sure m.may
+asked l = record {
+  wide = l.wide;
+  exact = λ z h. l.exact z;
+  precise = λ a b c d p q r h. l.precise a b c d p q r;
+  below = λ a b p h. l.below a b p;
+  ignores = l.ignores;
+}

@@ -1,6 +1,6 @@
 -- What settling comes to: the sequence of bounds, and where it rests.
 use Rattle.std.specs.Prelude.{◌≡◌, ℕ, suc, ◌<◌, ◌≢◌}
-use Rattle.atoms.specs.Sets.{all_below}
+use Rattle.atoms.specs.Sets.{Within, all_below}
 use Rattle.atoms.specs.Bounded.{Proper}
 use Rattle.atoms.specs.declared.bounds.Bounds.{Bounds}
 use Rattle.approx.specs.Meanings.{Meaning}
@@ -9,6 +9,13 @@ use Rattle.approx.specs.Meanings.{Meaning}
 pub data Climbs (f : ℕ → ℕ) : ℕ → ℕ → Type 0 where
   rests : {c : ℕ} → f c ≡ c → Climbs f c c
   goes : {c d : ℕ} → (f c ≢ c) → Climbs f (f c) d → Climbs f c d
+
+-- a climb by f from start stays within top and loses no atom: f is within top there, and grows with its argument
+pub record Rises (f : ℕ → ℕ) (start top : ℕ) : Type 0 where
+  pub room : Within start top
+  pub starts : Within start (f start)
+  pub stays : Within (f top) top
+  pub grows : (c d : ℕ) → Within start c → Within c d → Within d top → Within (f c) (f d)
 
 -- the first bounds: no atom, and every atom below the width
 abbrev pub first_bounds : Meaning → Bounds

@@ -6,3 +6,4 @@ pub mod Lacking
 pub mod Openness
 pub mod Moving
 pub mod Ordering
+pub mod Judging

@@ -1,10 +1,10 @@
 -- The listing order is a strict total order, in which a set comes first among those that it is within.
-use Rattle.std.proofs.Common.{◌≡◌, ℕ, zero, suc, ◌/◌, ◌%◌, ◌^◌, ◌<◌, ◌⊎◌, sym, refl, ap, ◌∙◌, subst, ap₂, inl, inr, pow-suc, arith}
+use Rattle.std.proofs.Common.{◌≡◌, ℕ, zero, suc, Bool, false, Option, Some, None, MatchOption, Decides, ◌/◌, ◌%◌, ◌^◌, ◌<◌, ◌⊎◌, sym, refl, ap, ◌∙◌, subst, ap₂, inl, inr, pow-suc, arith}
 use lib.Arith.{bin_ind}
 use lib.Bits.{bit_xor}
 use lib.Count.{count_trailing_zeros, under}
-use Rattle.std.proofs.lemmas.Bool.{cases_eq, cases_lt}
-use Rattle.atoms.specs.Sets.{digit, Has, Within, Lowest}
+use Rattle.std.proofs.lemmas.Bool.{cases_eq, cases_lt, false≢true, eqb-true, eq-eqb}
+use Rattle.atoms.specs.Sets.{digit, Has, has, Within, Lowest}
 use Rattle.atoms.specs.Order.{Before}
 use Rattle.atoms.proofs.Digits.{digit_zero, digit_suc, digit_of_zero, has_or_lacks, lacks_not, xor_digit}
 
@@ -120,3 +120,11 @@ by_before {a} {b} {i} l r =
       | inl q ↦ lacks_not (bit_xor a b) i (xor_digit a b i ∙ ap₂ bit_xor (e ∙ q) q) h
       | inr q ↦ lacks_not (bit_xor a b) i (xor_digit a b i ∙ ap₂ bit_xor (e ∙ q) q) h
     ]
+
+-- what the lowest atom of the difference decides, if there is one
+pub before_decided : (a b : ℕ) (o : Option ℕ) (r : Bool) → MatchOption o (bit_xor a b ≡ 0) (λ i. (i < 64) × Lowest (bit_xor a b) i) → MatchOption o (r ≡ false) (λ i. r ≡ has b i) → Decides r (Before a b)
+before_decided a b None r e d = ((λ t. absurd (false≢true (sym d ∙ t))), (λ p. absurd (equal_not_before e p)))
+before_decided a b (Some i) r e d = (
+  (λ t. before_by e.1 (eqb-true (digit b i) 1 (sym d ∙ t))),
+  (λ p. d ∙ eq-eqb (digit b i) 1 (by_before e.1 p)),
+)

@@ -1,9 +1,10 @@
 // A lower and an upper interpretation, and what they leave open.
-ghost use Rattle.std.specs.Prelude.{◌≡◌, Decides};
+ghost use Rattle.std.specs.Prelude.{◌≡◌, Some, Decides};
 ghost use Rattle.atoms.specs.Sets.{collected};
-ghost use Rattle.atoms.specs.Bounded.{Proper, state_of, is_open, open_count};
+ghost use Rattle.atoms.specs.Bounded.{Proper, state_of, state_word, is_open, open_count};
 
 use super::set::{Interpretation, has, within};
+use std::fmt;
 
 // What is on at least, and what is on at most.
 #[derive(Clone, Copy, Debug, PartialEq, Eq)]
@@ -18,6 +19,18 @@ pub enum State {
     On,
     Off,
     Open,
+}
+
+impl fmt::Display for State {
+    ghost output = { λ state. Some (state_word state) };
+
+    fn fmt<W: fmt::Write>(&self, f: &mut fmt::Formatter<W>) -> fmt::Result {
+        f.write_str(match self {
+            State::On => "on",
+            State::Off => "off",
+            State::Open => "open",
+        })
+    }
 }
 
 impl Bounds {

@@ -8,8 +8,5 @@ use super::set::{Interpretation, has, lowest};
 pub fn comes_before(a: Interpretation, b: Interpretation) -> bool
     ensures { Decides result (Before a b) }
 {
-    match lowest(a ^ b) {
-        None => false,
-        Some(atom) => has(b, atom),
-    }
+    lowest(a ^ b).is_some_and(|atom| has(b, atom))
 }

@@ -37,6 +37,22 @@ pub fn only(atom: u8) -> Interpretation
     if atom < 64 { 1 << atom } else { 0 }
 }
 
+// The atoms below the width for which it holds; there are 64 atoms. A loop, since a chain would keep no word of what was
+// answered for the atoms that are left out.
+pub fn those<F: Fn(u8) -> bool>(width: u8, holds: F) -> Interpretation
+    requires { (i : ℕ) → i < min width 64 → F.pre holds i }
+    ensures below { result < 2 ^ min width 64 }
+    ensures has { (i : ℕ) → i < min width 64 → F.post holds i (has result i) }
+{
+    let mut set: Interpretation = 0;
+    for atom in 0..width.min(64) {
+        if holds(atom) {
+            set |= only(atom);
+        }
+    }
+    set
+}
+
 // The lowest atom of the set, if it has one.
 pub fn lowest(set: Interpretation) -> Option<u8>
     ensures { MatchOption result (set ≡ 0) (λ i. (i < 64) × Lowest set i) }

@@ -8,6 +8,7 @@ use Rattle.programs.specs.Normal.{NormalRules}
 use Rattle.programs.specs.Programs.{Verdict, surely, perhaps, table_meaning}
 use Rattle.programs.specs.Tables.{width_of, clauses_of, aggregates_of}
 use Rattle.programs.specs.declared.clause.Clause.{Clause}
+use Rattle.programs.specs.declared.clause.Grounds.{Grounds}
 use Rattle.programs.specs.declared.rules.RuleTable.{RuleTable}
 use Rattle.programs.specs.Following.{derived_from, derived_in}
 
@@ -20,20 +21,20 @@ pub record Applies (cs : List Clause) (h p i : ℕ) : Type 0 where
   pub barred : Apart rule.barred p
 
 module _ (t : RuleTable) (normal : NormalRules t) where
-  derived_applies : (h p j i : ℕ) → Has (derived t h p j) i → Applies (clauses_of t) h p i
-  derived_applies h p j i x =
-      let f = derived_from t h p j i x in
+  derived_applies : (g : Grounds) (i : ℕ) → Has (derived t g) i → Applies (clauses_of t) g.held g.possible i
+  derived_applies g i x =
+      let f = derived_from t g i x in
       record { rule = f.rule; among = f.among; head = f.head; needed = f.fires.needed; barred = f.fires.barred }
 
-  applies_derived : (h p j i : ℕ) → Applies (clauses_of t) h p i → Has (derived t h p j) i
-  applies_derived h p j i a =
+  applies_derived : (g : Grounds) (i : ℕ) → Applies (clauses_of t) g.held g.possible i → Has (derived t g) i
+  applies_derived g i a =
       let n = normal a.rule a.among in
-      derived_in t h p j i (record {
+      derived_in t g i (record {
         rule = a.rule;
         among = a.among;
         head = a.head;
         below = subst (λ (x : ℕ). x < width_of t) a.head n.head;
-        fires = record { needed = a.needed; barred = a.barred; aggregates = within_trans (within_eq n.aggregates) (zero_within j) };
+        fires = record { needed = a.needed; barred = a.barred; aggregates = within_trans (within_eq n.aggregates) (zero_within g.holding) };
       })
 
   pub below_of : {s z : ℕ} → Within s z → z < 2 ^ width_of t → s < 2 ^ width_of t
@@ -47,17 +48,21 @@ module _ (t : RuleTable) (normal : NormalRules t) where
     may_is : (table_meaning sure may t).may l u ≡ perhaps may t l u
     may_is = ap₂ (perhaps may t) (mod-eq_of_lt hl) (mod-eq_of_lt hu)
 
+    -- what a rule is held against, where the verdict says which aggregates hold
+    abbrev on : Verdict → ℕ → ℕ → Grounds
+    on verdict held possible = record { held = held; possible = possible; holding = passing (λ a. verdict a l u) (aggregates_of t) }
+
     pub sure_in : (i : ℕ) → Applies (clauses_of t) l u i → Has ((table_meaning sure may t).sure l u) i
-    sure_in i a = subst (λ (s : ℕ). Has s i) (sym sure_is) (applies_derived l u (passing (λ a. sure a l u) (aggregates_of t)) i a)
+    sure_in i a = subst (λ (s : ℕ). Has s i) (sym sure_is) (applies_derived (on sure l u) i a)
 
     pub sure_from : (i : ℕ) → Has ((table_meaning sure may t).sure l u) i → Applies (clauses_of t) l u i
-    sure_from i x = derived_applies l u (passing (λ a. sure a l u) (aggregates_of t)) i (subst (λ (s : ℕ). Has s i) sure_is x)
+    sure_from i x = derived_applies (on sure l u) i (subst (λ (s : ℕ). Has s i) sure_is x)
 
     pub may_in : (i : ℕ) → Applies (clauses_of t) u l i → Has ((table_meaning sure may t).may l u) i
-    may_in i a = subst (λ (s : ℕ). Has s i) (sym may_is) (applies_derived u l (passing (λ a. may a l u) (aggregates_of t)) i a)
+    may_in i a = subst (λ (s : ℕ). Has s i) (sym may_is) (applies_derived (on may u l) i a)
 
     pub may_from : (i : ℕ) → Has ((table_meaning sure may t).may l u) i → Applies (clauses_of t) u l i
-    may_from i x = derived_applies u l (passing (λ a. may a l u) (aggregates_of t)) i (subst (λ (s : ℕ). Has s i) may_is x)
+    may_from i x = derived_applies (on may u l) i (subst (λ (s : ℕ). Has s i) may_is x)
 
 -- a rule applies to its own head
 pub own : {cs : List Clause} {h p : ℕ} (c : Clause) → Among c cs → Within c.needed h → Apart c.barred p → Applies cs h p c.head

@@ -15,6 +15,7 @@ use Rattle.programs.specs.Programs.{Verdict, table_meaning}
 use Rattle.programs.specs.Reducts.{reduct, reduced}
 use Rattle.programs.specs.Tables.{zero_clause, width_of, clauses_of, aggregates_of}
 use Rattle.programs.specs.declared.clause.Clause.{Clause}
+use Rattle.programs.specs.declared.clause.Grounds.{Grounds}
 use Rattle.programs.specs.declared.rules.RuleTable.{RuleTable}
 use Rattle.programs.specs.Following.{derived_from, derived_in}
 use Rattle.classics.specs.StableModels.{Model, StableModel}
@@ -30,8 +31,9 @@ module _ (t : RuleTable) (normal : NormalRules t) (z : ℕ) (sure may : Verdict)
   abbrev cut : ℕ → ℕ
   cut s = clipped (width_of t) s
 
-  abbrev holding : ℕ → ℕ
-  holding x = passing (λ a. sure a (cut x) (cut b.upper)) (aggregates_of t)
+  -- what the rules are held against at a step from x
+  abbrev grounds : ℕ → Grounds
+  grounds x = record { held = cut x; possible = cut b.upper; holding = passing (λ a. sure a (cut x) (cut b.upper)) (aggregates_of t) }
 
   same : clauses_of (reduced z t) ≡ rules
   same = in_use_laid 128 zero_clause rules
@@ -43,7 +45,7 @@ module _ (t : RuleTable) (normal : NormalRules t) (z : ℕ) (sure may : Verdict)
   step_model : (m x : ℕ) → Model rules m → Within x m → Within (step x) m
   step_model m x f p = record {
     at = λ i h.
-        let d = derived_from (reduced z t) (cut x) (cut b.upper) (holding x) i h in
+        let d = derived_from (reduced z t) (grounds x) i h in
         subst (Has m) d.head (f d.rule (subst (Among d.rule) same d.among) (within_trans d.fires.needed (within_trans (cut_within x) p)));
   }
 
@@ -58,9 +60,10 @@ module _ (t : RuleTable) (normal : NormalRules t) (z : ℕ) (sure may : Verdict)
       let small : c.needed < 2 ^ width_of t = subst (λ (i : ℕ). i < 2 ^ width_of t) (sym (ap (λ (d : Clause). d.needed) k.is)) o.needed in
       let needed : Within c.needed (cut b.lower) = record { at = λ i h. mod_digit b.lower (width_of t) i (below_wide (width_of t) c.needed i small h) ∙ p.at i h } in
       let barred : Apart c.barred (cut b.upper) = λ i h _. lacks_not 0 i (digit_of_zero i) (subst (λ (s : ℕ). Has s i) (ap (λ (d : Clause). d.barred) k.is) h) in
-      let none : Within c.aggregates (holding b.lower) = within_trans (within_eq (ap (λ (d : Clause). d.aggregates) k.is ∙ o.aggregates)) (zero_within (holding b.lower)) in
+      let holding = (grounds b.lower).holding in
+      let none : Within c.aggregates holding = within_trans (within_eq (ap (λ (d : Clause). d.aggregates) k.is ∙ o.aggregates)) (zero_within holding) in
       subst (λ (s : ℕ). Has s c.head) (climb_rests n.lower)
-      (derived_in (reduced z t) (cut b.lower) (cut b.upper) (holding b.lower) c.head (record {
+      (derived_in (reduced z t) (grounds b.lower) c.head (record {
         rule = c;
         among = subst (Among c) (sym same) among;
         head = refl;

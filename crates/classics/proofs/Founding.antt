@@ -138,7 +138,7 @@ module _ (t : RuleTable) (normal : NormalRules t) (sure may : Verdict) (laws : L
       next_true : Within c.lower T
       next_true = (climbing.climb_keeps (λ x. (x < 2 ^ w) × Within x T)
           (λ x k. (
-            derived_below t _ _ _,
+            derived_below t _,
             record {
               at = λ i h.
                   let a = sure_from t normal sure may k.0 hu i h in

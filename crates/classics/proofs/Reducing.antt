@@ -1,6 +1,7 @@
 -- Stable interpretations of normal rules are their stable models.
-use Rattle.std.proofs.Common.{◌≡◌, ℕ, ◌^◌, ◌<◌, Bool, true, false, cond, List, [], ◌∷◌, sym, refl, ap, ◌∙◌, subst, inl, inr, mod-lt, arith, pow_pos}
+use Rattle.std.proofs.Common.{◌≡◌, ℕ, ◌^◌, ◌<◌, Bool, true, false, cond, List, [], ◌∷◌, map, sym, refl, ap, ◌∙◌, subst, inl, inr, mod-lt, arith, pow_pos}
 use lib.Bits.{bit_and}
+use Rattle.std.specs.List.{filter}
 use Rattle.std.proofs.lemmas.Bool.{eqb-true, eq-eqb}
 use Rattle.atoms.specs.Sets.{Has, Within, Apart, clipped}
 use Rattle.atoms.proofs.Digits.{has_and, mod_digit}
@@ -22,10 +23,10 @@ reduct_in : (z : ℕ) (cs : List Clause) (c : Clause) → Among c cs → Apart c
 reduct_in z [] c m a = absurd m
 reduct_in z (x ∷ xs) c (inl e) a =
     let t : spares z x ≡ true = eq-eqb (bit_and x.barred z) 0 (subst (λ (y : Clause). bit_and y.barred z ≡ 0) e (apart_none c.barred z a)) in
-    subst (λ (b : Bool). Among (unbarred c) (cond b (unbarred x ∷ reduct z xs) (reduct z xs))) (sym t) (inl (ap unbarred e))
+    subst (λ (b : Bool). Among (unbarred c) (map unbarred (cond b (x ∷ filter (spares z) xs) (filter (spares z) xs)))) (sym t) (inl (ap unbarred e))
 reduct_in z (x ∷ xs) c (inr m) a = later (spares z x) (reduct_in z xs c m a)
   where
-    later : (b : Bool) → Among (unbarred c) (reduct z xs) → Among (unbarred c) (cond b (unbarred x ∷ reduct z xs) (reduct z xs))
+    later : (b : Bool) → Among (unbarred c) (reduct z xs) → Among (unbarred c) (map unbarred (cond b (x ∷ filter (spares z) xs) (filter (spares z) xs)))
     later true k = inr k
     later false k = k
 
@@ -43,7 +44,7 @@ reduct_from z (x ∷ xs) d m = by (spares z x) refl (reduct_from z xs d) m
     further : Kept z xs d → Kept z (x ∷ xs) d
     further k = record { rule = k.rule; among = inr k.among; free = k.free; is = k.is }
 
-    by : (b : Bool) → spares z x ≡ b → (Among d (reduct z xs) → Kept z xs d) → Among d (cond b (unbarred x ∷ reduct z xs) (reduct z xs)) → Kept z (x ∷ xs) d
+    by : (b : Bool) → spares z x ≡ b → (Among d (reduct z xs) → Kept z xs d) → Among d (map unbarred (cond b (x ∷ filter (spares z) xs) (filter (spares z) xs))) → Kept z (x ∷ xs) d
     by true e f (inl q) = record { rule = x; among = inl refl; free = apart_from x.barred z (eqb-true (bit_and x.barred z) 0 e); is = q }
     by true e f (inr k) = further (f k)
     by false e f k = further (f k)

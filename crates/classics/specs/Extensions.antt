@@ -2,7 +2,7 @@
 use Rattle.std.specs.Prelude.{ℕ, ◌<◌}
 use Rattle.atoms.specs.Sets.{Has}
 use Rattle.approx.specs.Meanings.{Meaning}
-use Rattle.frameworks.specs.Lines.{attackers_of}
+use Rattle.frameworks.specs.Lines.{HasLine, attackers_of}
 use Rattle.frameworks.specs.Frameworks.{width_of, sure_of, may_of}
 use Rattle.frameworks.specs.declared.framework.Framework.{Framework}
 
@@ -12,7 +12,7 @@ framework_meaning f = record { width = width_of f; sure = sure_of f; may = may_o
 
 -- the arguments are the atoms below the width that have a line
 abbrev pub Argument : Framework → ℕ → Type 0
-Argument f i = (i < width_of f) × Has f.table.lines i
+Argument f i = (i < width_of f) × HasLine f.table i
 
 -- argument b attacks argument a where the line of a lists b
 pub record Attacks (f : Framework) (b a : ℕ) : Type 0 where

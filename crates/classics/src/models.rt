@@ -27,10 +27,8 @@ pub fn is_stable_model<R: Reading>(program: &RuleProgram<R>, z: Interpretation) 
     ensures model { NormalRules program.now.table → Decides result (StableModel (clauses_of program.now.table) z) }
     ensures stable { NormalRules program.now.table → (x : ℕ) → Same (Stable (program_meaning R.Reading program.now) x) (StableModel (clauses_of program.now.table) x) }
 {
-    match well_founded_model(&RuleProgram::new(program.reduct(z), Plain)) {
-        Ok(bounds) => bounds.lower == z,
-        Err(_) => false,
-    }
+    let reduct = RuleProgram::new(program.reduct(z), Plain);
+    well_founded_model(&reduct).is_ok_and(|bounds| bounds.lower == z)
 }
 
 // The settled bounds, which are never crossed. Without aggregates they are the well-founded model (Van Gelder, Ross and

@@ -3,15 +3,15 @@ use Rattle.std.proofs.Common.{◌≡◌, ℕ, ◌<◌, List, [], ◌∷◌, ◌+
 use Rattle.std.specs.List.{remove}
 use Rattle.approx.specs.declared.approximator.Approximator.{Ghosts}
 use Rattle.faults.specs.declared.BenchFault.{BenchFault}
+use Rattle.faults.specs.declared.Refused.{Refused}
 use Rattle.engine.specs.Histories.{History}
 use Rattle.engine.specs.Listings.{peg_leaves, pull_leaves, pull_gives, pull_event, Ran}
 use Rattle.engine.specs.Scripts.{Acts}
 use Rattle.engine.specs.declared.pegs.Sense.{Sense}
 use Rattle.engine.specs.declared.listing.Listing.{Listing}
 use Rattle.engine.specs.declared.listing.Token.{Token}
-use Rattle.engine.specs.declared.listing.Unpulled.{Unpulled}
 use Rattle.engine.specs.declared.runs.Event.{Event}
-use Rattle.engine.specs.declared.runs.Event.TheVariants.{PullRefused}
+use Rattle.engine.specs.declared.runs.Event.TheVariants as event
 use Rattle.engine.specs.declared.runs.Command.TheVariants.{Pull}
 
 -- ---- the pile stays
@@ -24,14 +24,14 @@ pull_pile None x t = refl
 pull_pile (Some f) x t = refl
 
 -- ---- a pull that was refused
-pub token_back : (f : Option BenchFault) (t : Token) (b : Unpulled) → Err b ≡ pull_gives f t → b.token ≡ t
+pub token_back : (f : Option BenchFault) (t : Token) (b : Refused Token) → Err b ≡ pull_gives f t → b.back ≡ t
 token_back None t b e = cc
 token_back (Some f) t b e = cc
 
 -- `i` and `s` are the token's atom and sense as the code has them
-pub refused_acts : {X : Type 0} (G : Ghosts X) {x y : Listing X} {p q : List Token} {k i : ℕ} {s : Sense} (t : Token) (b : Unpulled) → i ≡ t.atom → s ≡ t.sense → k < length p → t ≡ get_or p k t → b.token ≡ t → q ≡ remove p k ++ b.token ∷ [] → y.pile ≡ x.pile → ((h : History) → Ran G h x → Ran G (pull_event t (Err b) ∷ h) y) → Acts G (Pull k) p q x y (PullRefused i s b.fault ∷ [])
+pub refused_acts : {X : Type 0} (G : Ghosts X) {x y : Listing X} {p q : List Token} {k i : ℕ} {s : Sense} (t : Token) (b : Refused Token) → i ≡ t.atom → s ≡ t.sense → k < length p → t ≡ get_or p k t → b.back ≡ t → q ≡ remove p k ++ b.back ∷ [] → y.pile ≡ x.pile → ((h : History) → Ran G h x → Ran G (pull_event t (Err b) ∷ h) y) → Acts G (Pull k) p q x y (event.Pull i s (Err b.fault) ∷ [])
 refused_acts G {x} {y} {p} {q} {k} {i} {s} t b ei es l there back pool pile law =
-    let e : PullRefused t.atom t.sense b.fault ≡ PullRefused i s b.fault = ap₂ (λ (j : ℕ) (u : Sense). PullRefused j u b.fault) (sym ei) (sym es) in
+    let e : event.Pull t.atom t.sense (Err b.fault) ≡ event.Pull i s (Err b.fault) = ap₂ (λ (j : ℕ) (u : Sense). event.Pull j u (Err b.fault)) (sym ei) (sym es) in
     record {
       pile = pile;
       answers = (λ _. record { token = t; there = there; fault = Some b.fault; event = ap (λ (v : Event). v ∷ []) (sym e); pool = pool ∙ ap (λ (u : Token). remove p k ++ u ∷ []) back }, λ out. absurd (omega arith));

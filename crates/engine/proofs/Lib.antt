@@ -1,6 +1,5 @@
 pub mod Turning
 pub mod Agreement
-pub mod Faulting
 pub mod Tracking
 mod Acting
 mod Playing

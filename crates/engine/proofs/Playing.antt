@@ -1,21 +1,20 @@
 -- One command after another, and what a whole run comes to.
-use Rattle.std.proofs.Common.{◌≡◌, ℕ, Bool, true, false, cond, ltb, List, [], ◌∷◌, ◌++◌, Ok, Err, sym, refl, ap, ◌∙◌, subst, append_assoc, append-nil, arith}
-use Rattle.std.proofs.lemmas.Bool.{ltb-true}
+use Rattle.std.proofs.Common.{◌≡◌, Bool, true, false, cond, ltb, List, [], ◌∷◌, ◌++◌, Ok, Err, sym, refl, ap, ◌∙◌, subst, append_assoc, append-nil}
 use Rattle.atoms.specs.Bounded.{Between, open_count}
 use Rattle.atoms.specs.declared.bounds.Bounds.{Bounds}
 use Rattle.approx.specs.Meanings.{meaning}
 use Rattle.approx.specs.Settling.{Settles}
 use Rattle.approx.specs.declared.approximator.Approximator.{Ghosts}
 use Rattle.faults.specs.declared.BenchFault.TheVariants.{TooManyOpen}
+use Rattle.faults.specs.declared.Refused.{Refused}
 use Rattle.engine.specs.Boards.{Granted}
 use Rattle.engine.specs.Histories.{History, Lawful}
 use Rattle.engine.specs.Listings.{fresh, list_gives, Ran}
-use Rattle.engine.specs.Scripts.{since, Answer, Answers, Performs, Plays, Runs, RunsUnlisted}
+use Rattle.engine.specs.Scripts.{since, Answer, Answers, Performs, Plays, Runs}
 use Rattle.engine.specs.declared.board.Board.{Board}
 use Rattle.engine.specs.declared.board.Settled.{Settled}
 use Rattle.engine.specs.declared.listing.Listing.{Listing}
 use Rattle.engine.specs.declared.listing.Token.{Token}
-use Rattle.engine.specs.declared.listing.Unlisted.{Unlisted}
 use Rattle.engine.specs.declared.runs.Event.{Event}
 use Rattle.engine.specs.declared.runs.Command.{Command}
 
@@ -57,14 +56,14 @@ module _ {X : Type 0} (G : Ghosts X) where
     }
 
   -- ---- whole runs
-  listed_is : (b : Bool) (u : Unlisted X) (x y : Listing X) → Ok x ≡ cond b (Err u) (Ok y) → x ≡ y
+  listed_is : (b : Bool) (u : Refused (Settled X)) (x y : Listing X) → Ok x ≡ cond b (Err u) (Ok y) → x ≡ y
   listed_is true u x y e = cc
   listed_is false u x y e = cc
 
   module _ {board : Board X} {s : Settled X} (granted : Granted G board s) where
     -- the refusal, if more than 16 atoms are open
-    abbrev too_many : Unlisted X
-    too_many = record { fault = TooManyOpen (open_count s.bounds); settled = s }
+    abbrev too_many : Refused (Settled X)
+    too_many = record { fault = TooManyOpen (open_count s.bounds); back = s }
 
     settled_pile : Settles (meaning G s.pile) s.bounds
     settled_pile = subst (λ (a : X). Settles (meaning G a) s.bounds) (sym granted.pile) granted.settled
@@ -85,13 +84,3 @@ module _ {X : Type 0} (G : Ghosts X) where
           stable_within = λ z t. subst (λ (b : Bounds). Between b z) (sym (granted.only y.bounds settled)) (granted.stable_within z t);
           ran = ran;
         }
-
-    -- `b` is whether more than 16 atoms are open
-    unlisted_by : (b : Bool) (u : Unlisted X) → ltb 16 (open_count s.bounds) ≡ b → Err u ≡ cond b (Err too_many) (Ok (fresh s)) → RunsUnlisted G board u
-    unlisted_by true u t e =
-        let back : too_many ≡ u = cc in
-        subst (λ (v : Unlisted X). RunsUnlisted G board v) back (record { granted = granted; many = ltb-true 16 (open_count s.bounds) t; fault = refl })
-    unlisted_by false u t e = let z : ◌≡◌ {A = ℕ} 0 1 = cc in absurd (omega arith)
-
-    pub runs_unlisted : (u : Unlisted X) → Err u ≡ list_gives s → RunsUnlisted G board u
-    runs_unlisted u e = unlisted_by (ltb 16 (open_count s.bounds)) u refl e

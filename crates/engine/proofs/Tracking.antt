@@ -1,5 +1,5 @@
 -- What each call does to the history behind a listing.
-use Rattle.std.proofs.Common.{◌≡◌, ℕ, ◌≤◌, Bool, true, false, cond, ◌||◌, ltb, [], ◌∷◌, Some, None, Option, sym, ap, ◌∙◌, ap₂}
+use Rattle.std.proofs.Common.{◌≡◌, ℕ, ◌≤◌, Bool, true, false, cond, ◌||◌, ltb, [], ◌∷◌, Some, None, Ok, Err, Option, sym, ap, ◌∙◌, ap₂}
 use Rattle.std.proofs.lemmas.Bool.{ne_eqb}
 use Rattle.atoms.specs.Sets.{digit, has}
 use Rattle.atoms.specs.Bounded.{Between, open_count}
@@ -21,14 +21,14 @@ use Rattle.faults.specs.declared.BenchFault.TheVariants as fault
 use Rattle.engine.specs.Standing.{Standing, standing, same_peg, no_pegs, Turned}
 use Rattle.engine.specs.Rules.{peg_fault, pull_fault}
 use Rattle.engine.specs.Histories.{History, in_force, handed, Agreeing, Rightly}
-use Rattle.engine.specs.Listings.{fresh, begun, moved_on, next_event, Listable, Ran}
+use Rattle.engine.specs.Listings.{fresh, begun, moved_on, Listable, Ran}
 use Rattle.engine.specs.declared.board.Settled.{Settled}
 use Rattle.engine.specs.declared.pegs.Sense.{Sense}
 use Rattle.engine.specs.declared.pegs.Sense.TheVariants.{On, Off}
 use Rattle.engine.specs.declared.pegs.Pegs.{Pegs}
 use Rattle.engine.specs.declared.listing.Listing.{Listing}
 use Rattle.engine.specs.declared.runs.Event.{Event}
-use Rattle.engine.specs.declared.runs.Event.TheVariants.{Handed, NoMore, Tallied, Pegged, PegRefused, Pulled, PullRefused, Rewound}
+use Rattle.engine.specs.declared.runs.Event.TheVariants.{Next, Peg, Pull, Rewind, Tally}
 use Rattle.engine.proofs.Agreement.{wanted_agreeing, first_so_many}
 
 -- ---- the same pegs give the same faults
@@ -73,31 +73,31 @@ module _ {X : Type 0} (G : Ghosts X) where
       alike : Alike (Wanted (meaning G x.pile) x.pegs.on x.pegs.off) (Agreeing (meaning G x.pile) (in_force h))
       alike = wanted_agreeing x.pegs (in_force h) ran.pegs
 
-      pub next_ran : (r : Option ℕ) → Sought (Wanted (meaning G x.pile) x.pegs.on x.pegs.off) x.last r → Ran G (next_event r ∷ h) (moved_on x r)
-      next_ran None none = step NoMore x.pegs x.last (front_whole ran.front (none_alike alike x.last none)) ran.pegs ran.front
+      pub next_ran : (r : Option ℕ) → Sought (Wanted (meaning G x.pile) x.pegs.on x.pegs.off) x.last r → Ran G (Next r ∷ h) (moved_on x r)
+      next_ran None none = step (Next None) x.pegs x.last (front_whole ran.front (none_alike alike x.last none)) ran.pegs ran.front
       next_ran (Some y) first =
           let follows : FirstAfter (Agreeing (meaning G x.pile) (in_force h)) x.last y = first_alike alike x.last first in
-          step (Handed y) x.pegs (Some y) (λ all. front_short ran.front follows all) ran.pegs (front_hands ran.front follows)
+          step (Next (Some y)) x.pegs (Some y) (λ all. front_short ran.front follows all) ran.pegs (front_hands ran.front follows)
 
-      pub tally_ran : (n : ℕ) → Counted (Wanted (meaning G x.pile) x.pegs.on x.pegs.off) n → Ran G (Tallied n ∷ h) x
-      tally_ran n counted = step (Tallied n) x.pegs x.last (counted_alike alike counted) ran.pegs ran.front
+      pub tally_ran : (n : ℕ) → Counted (Wanted (meaning G x.pile) x.pegs.on x.pegs.off) n → Ran G (Tally n ∷ h) x
+      tally_ran n counted = step (Tally n) x.pegs x.last (counted_alike alike counted) ran.pegs ran.front
 
-      pub rewind_ran : Ran G (Rewound ∷ h) (begun x x.pegs)
-      rewind_ran = step Rewound x.pegs None tt ran.pegs (front_begins (Agreeing (meaning G x.pile) (in_force h)))
+      pub rewind_ran : Ran G (Rewind ∷ h) (begun x x.pegs)
+      rewind_ran = step Rewind x.pegs None tt ran.pegs (front_begins (Agreeing (meaning G x.pile) (in_force h)))
 
       module _ (i : ℕ) (s : Sense) where
-        pub peg_refused : (f : BenchFault) → peg_fault (G.width x.pile) (standing x.pegs) i ≡ Some f → Ran G (PegRefused i s f ∷ h) x
-        peg_refused f e = step (PegRefused i s f) x.pegs x.last (peg_same (standing x.pegs) (in_force h) ran.pegs (G.width x.pile) i ∙ e) ran.pegs ran.front
+        pub peg_refused : (f : BenchFault) → peg_fault (G.width x.pile) (standing x.pegs) i ≡ Some f → Ran G (Peg i s (Err f) ∷ h) x
+        peg_refused f e = step (Peg i s (Err f)) x.pegs x.last (peg_same (standing x.pegs) (in_force h) ran.pegs (G.width x.pile) i ∙ e) ran.pegs ran.front
 
-        pub peg_granted : (p : Pegs) → peg_fault (G.width x.pile) (standing x.pegs) i ≡ None → Turned (standing x.pegs) i s true (standing p) → Ran G (Pegged i s ∷ h) (begun x p)
+        pub peg_granted : (p : Pegs) → peg_fault (G.width x.pile) (standing x.pegs) i ≡ None → Turned (standing x.pegs) i s true (standing p) → Ran G (Peg i s (Ok tt) ∷ h) (begun x p)
         peg_granted p e turned =
-            step (Pegged i s) p None (peg_same (standing x.pegs) (in_force h) ran.pegs (G.width x.pile) i ∙ e)
-            (turned_same (standing x.pegs) (in_force h) ran.pegs i s true (standing p) turned) (front_begins (Agreeing (meaning G x.pile) (in_force (Pegged i s ∷ h))))
+            step (Peg i s (Ok tt)) p None (peg_same (standing x.pegs) (in_force h) ran.pegs (G.width x.pile) i ∙ e)
+            (turned_same (standing x.pegs) (in_force h) ran.pegs i s true (standing p) turned) (front_begins (Agreeing (meaning G x.pile) (in_force (Peg i s (Ok tt) ∷ h))))
 
-        pub pull_refused : (f : BenchFault) → pull_fault (standing x.pegs) i s ≡ Some f → Ran G (PullRefused i s f ∷ h) x
-        pull_refused f e = step (PullRefused i s f) x.pegs x.last (pull_same (standing x.pegs) (in_force h) ran.pegs i s ∙ e) ran.pegs ran.front
+        pub pull_refused : (f : BenchFault) → pull_fault (standing x.pegs) i s ≡ Some f → Ran G (Pull i s (Err f) ∷ h) x
+        pull_refused f e = step (Pull i s (Err f)) x.pegs x.last (pull_same (standing x.pegs) (in_force h) ran.pegs i s ∙ e) ran.pegs ran.front
 
-        pub pull_granted : (p : Pegs) → pull_fault (standing x.pegs) i s ≡ None → Turned (standing x.pegs) i s false (standing p) → Ran G (Pulled i s ∷ h) (begun x p)
+        pub pull_granted : (p : Pegs) → pull_fault (standing x.pegs) i s ≡ None → Turned (standing x.pegs) i s false (standing p) → Ran G (Pull i s (Ok tt) ∷ h) (begun x p)
         pull_granted p e turned =
-            step (Pulled i s) p None (pull_same (standing x.pegs) (in_force h) ran.pegs i s ∙ e)
-            (turned_same (standing x.pegs) (in_force h) ran.pegs i s false (standing p) turned) (front_begins (Agreeing (meaning G x.pile) (in_force (Pulled i s ∷ h))))
+            step (Pull i s (Ok tt)) p None (pull_same (standing x.pegs) (in_force h) ran.pegs i s ∙ e)
+            (turned_same (standing x.pegs) (in_force h) ran.pegs i s false (standing p) turned) (front_begins (Agreeing (meaning G x.pile) (in_force (Pull i s (Ok tt) ∷ h))))

@@ -7,9 +7,9 @@ use Rattle.approx.specs.Stability.{Stable}
 use Rattle.approx.specs.Settling.{Settles, Crosses}
 use Rattle.approx.specs.declared.approximator.Approximator.{Ghosts}
 use Rattle.faults.specs.declared.BenchFault.TheVariants.{Crossed}
+use Rattle.faults.specs.declared.Refused.{Refused}
 use Rattle.engine.specs.declared.board.Board.{Board}
 use Rattle.engine.specs.declared.board.Settled.{Settled}
-use Rattle.engine.specs.declared.board.Refused.{Refused}
 
 -- settling granted: the same pile, with the settled bounds, the only ones, within which every stable interpretation lies
 pub record Granted {X : Type 0} (G : Ghosts X) (board : Board X) (s : Settled X) : Type 0 where
@@ -20,8 +20,8 @@ pub record Granted {X : Type 0} (G : Ghosts X) (board : Board X) (s : Settled X)
   pub uncrossed : Crosses (meaning G board.pile) → ⊥
 
 -- settling refused: the same board again, since the bounds cross, and then there are no settled bounds
-pub record Denied {X : Type 0} (G : Ghosts X) (board : Board X) (r : Refused X) : Type 0 where
+pub record Denied {X : Type 0} (G : Ghosts X) (board : Board X) (r : Refused (Board X)) : Type 0 where
   pub fault : r.fault ≡ Crossed
-  pub board_back : r.board ≡ board
+  pub board_back : r.back ≡ board
   pub crossed : Crosses (meaning G board.pile)
   pub unsettled : (b : Bounds) → Settles (meaning G board.pile) b → ⊥

@@ -1,5 +1,6 @@
 -- What has happened to a listing since it was made, and the law that all of it keeps.
-use Rattle.std.specs.Prelude.{◌≡◌, ℕ, true, false, List, [], ◌∷◌, ◌++◌, Some, None}
+use Rattle.std.specs.Prelude.{◌≡◌, ℕ, true, false, List, [], ◌∷◌, ◌++◌, Some, None, Ok, Err}
+use Rattle.std.specs.Result.{result_err}
 use Rattle.atoms.specs.Sets.{Has}
 use Rattle.approx.specs.Meanings.{Meaning}
 use Rattle.approx.specs.Stability.{Stable}
@@ -9,7 +10,7 @@ use Rattle.engine.specs.Rules.{peg_fault, pull_fault}
 use Rattle.engine.specs.declared.pegs.Sense.{Sense}
 use Rattle.engine.specs.declared.pegs.Sense.TheVariants.{On, Off}
 use Rattle.engine.specs.declared.runs.Event.{Event}
-use Rattle.engine.specs.declared.runs.Event.TheVariants.{Handed, NoMore, Tallied, Pegged, PegRefused, Pulled, PullRefused, Rewound}
+use Rattle.engine.specs.declared.runs.Event.TheVariants.{Next, Peg, Pull, Rewind, Tally}
 
 -- a history is what each call gave, the newest first
 abbrev pub History : Type 0
@@ -18,26 +19,25 @@ History = List Event
 -- the pegs in force after a history: a granted peg puts one in force, and a granted pull lifts it
 abbrev pub in_force : History → Standing
 in_force [] = λ i s. false
-in_force (Handed z ∷ h) = in_force h
-in_force (NoMore ∷ h) = in_force h
-in_force (Tallied n ∷ h) = in_force h
-in_force (Pegged i s ∷ h) = changed (in_force h) i s true
-in_force (PegRefused i s f ∷ h) = in_force h
-in_force (Pulled i s ∷ h) = changed (in_force h) i s false
-in_force (PullRefused i s f ∷ h) = in_force h
-in_force (Rewound ∷ h) = in_force h
+in_force (Next r ∷ h) = in_force h
+in_force (Peg i s (Ok u) ∷ h) = changed (in_force h) i s true
+in_force (Peg i s (Err f) ∷ h) = in_force h
+in_force (Pull i s (Ok u) ∷ h) = changed (in_force h) i s false
+in_force (Pull i s (Err f) ∷ h) = in_force h
+in_force (Rewind ∷ h) = in_force h
+in_force (Tally n ∷ h) = in_force h
 
 -- what was handed out since the listing last began, the earliest first: it begins anew with each granted peg or pull, and when it is rewound
 abbrev pub handed : History → List ℕ
 handed [] = []
-handed (Handed z ∷ h) = handed h ++ z ∷ []
-handed (NoMore ∷ h) = handed h
-handed (Tallied n ∷ h) = handed h
-handed (Pegged i s ∷ h) = []
-handed (PegRefused i s f ∷ h) = handed h
-handed (Pulled i s ∷ h) = []
-handed (PullRefused i s f ∷ h) = handed h
-handed (Rewound ∷ h) = []
+handed (Next (Some z) ∷ h) = handed h ++ z ∷ []
+handed (Next None ∷ h) = handed h
+handed (Peg i s (Ok u) ∷ h) = []
+handed (Peg i s (Err f) ∷ h) = handed h
+handed (Pull i s (Ok u) ∷ h) = []
+handed (Pull i s (Err f) ∷ h) = handed h
+handed (Rewind ∷ h) = []
+handed (Tally n ∷ h) = handed h
 
 -- an interpretation obeys a peg on where it has the atom, and a peg off where it lacks the atom
 abbrev pub Obeys : ℕ → ℕ → Sense → Type 0
@@ -63,14 +63,12 @@ AllHanded m h = Lists (Agreeing m (in_force h)) (handed h)
 -- what the law says of the call that follows the history h: 'no more' is said exactly when all have been handed out, a tally is the
 -- number of all, and a peg or a pull is refused exactly as the rules say
 abbrev pub Rightly : Meaning → History → Event → Type 0
-Rightly m h (Handed z) = AllHanded m h → ⊥
-Rightly m h NoMore = AllHanded m h
-Rightly m h (Tallied n) = Counted (Agreeing m (in_force h)) n
-Rightly m h (Pegged i s) = peg_fault m.width (in_force h) i ≡ None
-Rightly m h (PegRefused i s f) = peg_fault m.width (in_force h) i ≡ Some f
-Rightly m h (Pulled i s) = pull_fault (in_force h) i s ≡ None
-Rightly m h (PullRefused i s f) = pull_fault (in_force h) i s ≡ Some f
-Rightly m h Rewound = Unit {0}
+Rightly m h (Next (Some z)) = AllHanded m h → ⊥
+Rightly m h (Next None) = AllHanded m h
+Rightly m h (Peg i s r) = peg_fault m.width (in_force h) i ≡ result_err r
+Rightly m h (Pull i s r) = pull_fault (in_force h) i s ≡ result_err r
+Rightly m h Rewind = Unit {0}
+Rightly m h (Tally n) = Counted (Agreeing m (in_force h)) n
 
 -- the law: at every moment what was handed out are the first so many, and every call gave what it should
 abbrev pub Lawful : Meaning → History → Type 0

@@ -7,6 +7,7 @@ use Rattle.approx.specs.declared.approximator.Approximator.{Ghosts}
 use Rattle.solver.specs.Fronts.{Front}
 use Rattle.faults.specs.declared.BenchFault.{BenchFault}
 use Rattle.faults.specs.declared.BenchFault.TheVariants.{TooManyOpen, PegsInForce}
+use Rattle.faults.specs.declared.Refused.{Refused}
 use Rattle.engine.specs.Standing.{standing, no_pegs, with_peg, without_peg, pegs_count}
 use Rattle.engine.specs.Histories.{History, in_force, handed, Agreeing, Lawful}
 use Rattle.engine.specs.declared.board.Settled.{Settled}
@@ -14,9 +15,6 @@ use Rattle.engine.specs.declared.pegs.Sense.{Sense}
 use Rattle.engine.specs.declared.pegs.Pegs.{Pegs}
 use Rattle.engine.specs.declared.listing.Listing.{Listing}
 use Rattle.engine.specs.declared.listing.Token.{Token}
-use Rattle.engine.specs.declared.listing.Unlisted.{Unlisted}
-use Rattle.engine.specs.declared.listing.Unpulled.{Unpulled}
-use Rattle.engine.specs.declared.listing.Unclosed.{Unclosed}
 use Rattle.engine.specs.declared.runs.Event.{Event}
 use Rattle.engine.specs.declared.runs.Event.TheVariants as event
 
@@ -27,12 +25,12 @@ module _ {X : Type 0} where
   fresh s = record { pile = s.pile; bounds = s.bounds; pegs = no_pegs; last = None }
 
   -- more than 16 open atoms are refused, and the settled board comes back
-  abbrev pub list_gives : Settled X → Result (Listing X) (Unlisted X)
-  list_gives s = cond (nat_lt 16 (open_count s.bounds)) (Err (record { fault = TooManyOpen (open_count s.bounds); settled = s })) (Ok (fresh s))
+  abbrev pub list_gives : Settled X → Result (Listing X) (Refused (Settled X))
+  list_gives s = cond (nat_lt 16 (open_count s.bounds)) (Err (record { fault = TooManyOpen (open_count s.bounds); back = s })) (Ok (fresh s))
 
   -- pegs in force are refused, and the listing comes back; without any, the settled board does
-  abbrev pub close_gives : Listing X → Result (Settled X) (Unclosed X)
-  close_gives x = cond (pegs_count x.pegs == 0) (Ok (record { pile = x.pile; bounds = x.bounds })) (Err (record { fault = PegsInForce (pegs_count x.pegs); listing = x }))
+  abbrev pub close_gives : Listing X → Result (Settled X) (Refused (Listing X))
+  close_gives x = cond (pegs_count x.pegs == 0) (Ok (record { pile = x.pile; bounds = x.bounds })) (Err (record { fault = PegsInForce (pegs_count x.pegs); back = x }))
 
   -- ---- what is left behind
   -- the listing begun anew, with these pegs
@@ -61,25 +59,20 @@ peg_gives None i s = Ok (record { atom = i; sense = s })
 peg_gives (Some f) i s = Err f
 
 -- a granted pull gives nothing, and a refused one gives the token back
-abbrev pub pull_gives : Option BenchFault → Token → Result (Unit {0}) Unpulled
+abbrev pub pull_gives : Option BenchFault → Token → Result (Unit {0}) (Refused Token)
 pull_gives None t = Ok tt
-pull_gives (Some f) t = Err (record { fault = f; token = t })
+pull_gives (Some f) t = Err (record { fault = f; back = t })
 
 -- ---- the event that a call is, by what it gave
--- a next hands an interpretation out, or says 'no more'
-abbrev pub next_event : Option ℕ → Event
-next_event None = event.NoMore
-next_event (Some z) = event.Handed z
-
 -- a peg of an atom and a sense is granted, or refused with a fault
 abbrev pub peg_event : ℕ → Sense → Result Token BenchFault → Event
-peg_event i s (Ok t) = event.Pegged i s
-peg_event i s (Err f) = event.PegRefused i s f
+peg_event i s (Ok t) = event.Peg i s (Ok tt)
+peg_event i s (Err f) = event.Peg i s (Err f)
 
 -- a pull with a token is granted, or refused with a fault
-abbrev pub pull_event : Token → Result (Unit {0}) Unpulled → Event
-pull_event t (Ok u) = event.Pulled t.atom t.sense
-pull_event t (Err e) = event.PullRefused t.atom t.sense e.fault
+abbrev pub pull_event : Token → Result (Unit {0}) (Refused Token) → Event
+pull_event t (Ok u) = event.Pull t.atom t.sense (Ok tt)
+pull_event t (Err e) = event.Pull t.atom t.sense (Err e.fault)
 
 -- ---- the listing and its history
 -- the kept bounds are the pile's settled ones, with at most 16 atoms open between them

@@ -1,5 +1,5 @@
 -- Scripts: what answers a command, what becomes of the pool of tokens, and the law of whole runs.
-use Rattle.std.specs.Prelude.{◌≡◌, ℕ, ◌+◌, ◌<◌, ◌≤◌, List, [], ◌∷◌, ◌++◌, length, take, Some, None, Option, slice_index_or}
+use Rattle.std.specs.Prelude.{◌≡◌, ℕ, ◌+◌, ◌<◌, ◌≤◌, List, [], ◌∷◌, ◌++◌, length, take, Some, None, Ok, Err, Option, Result, slice_index_or}
 use Rattle.std.specs.List.{remove}
 use Rattle.atoms.specs.Bounded.{Between, open_count}
 use Rattle.approx.specs.Meanings.{meaning}
@@ -8,20 +8,21 @@ use Rattle.approx.specs.Settling.{Settles}
 use Rattle.approx.specs.declared.approximator.Approximator.{Ghosts}
 use Rattle.faults.specs.declared.BenchFault.{BenchFault}
 use Rattle.faults.specs.declared.BenchFault.TheVariants.{TooManyOpen}
+use Rattle.faults.specs.declared.Refused.{Refused}
 use Rattle.engine.specs.Boards.{Granted, Denied}
 use Rattle.engine.specs.Histories.{History, Lawful}
-use Rattle.engine.specs.Listings.{next_event, peg_event, pull_event, peg_gives, pull_gives, Ran}
+use Rattle.engine.specs.Listings.{peg_event, pull_event, peg_gives, pull_gives, Ran}
 use Rattle.engine.specs.declared.board.Board.{Board}
+use Rattle.engine.specs.declared.board.Settled.{Settled}
 use Rattle.engine.specs.declared.pegs.Sense.{Sense}
 use Rattle.engine.specs.declared.listing.Listing.{Listing}
 use Rattle.engine.specs.declared.listing.Token.{Token}
-use Rattle.engine.specs.declared.listing.Unlisted.{Unlisted}
 use Rattle.engine.specs.declared.runs.Event.{Event}
-use Rattle.engine.specs.declared.runs.Event.TheVariants.{Tallied, Rewound}
+use Rattle.engine.specs.declared.runs.Event.TheVariants as event
 use Rattle.engine.specs.declared.runs.Command.{Command}
 use Rattle.engine.specs.declared.runs.Command.TheVariants.{Next, Peg, Pull, Rewind, Tally}
-use Rattle.engine.specs.declared.runs.Outcome.{Outcome}
-use Rattle.engine.specs.declared.runs.Outcome.TheVariants.{Whole, Short, NotListed, NotSettled}
+use Rattle.engine.specs.declared.runs.Unfinished.{Unfinished}
+use Rattle.engine.specs.declared.runs.Unfinished.TheVariants.{Short, NotListed, NotSettled}
 
 -- ---- the log
 -- the history h with the events of a log after it, the earliest of the log first
@@ -61,11 +62,11 @@ pub record PullsAt (p q : List Token) (k : ℕ) (es : List Event) : Type 0 where
 
 -- the events answer the command and the pool p becomes q: one event for each call, with what it gave; a pull at an empty place is no call
 abbrev pub Answer : List Token → List Token → Command → List Event → Type 0
-Answer p q Next es = (r : Option ℕ) × (es ≡ next_event r ∷ []) × (q ≡ p)
+Answer p q Next es = (r : Option ℕ) × (es ≡ event.Next r ∷ []) × (q ≡ p)
 Answer p q (Peg i s) es = (f : Option BenchFault) × (es ≡ peg_event i s (peg_gives f i s) ∷ []) × (q ≡ pool_pegged f p i s)
 Answer p q (Pull k) es = (k < length p → PullsAt p q k es) × (length p ≤ k → (es ≡ []) × (q ≡ p))
-Answer p q Rewind es = (es ≡ Rewound ∷ []) × (q ≡ p)
-Answer p q Tally es = (n : ℕ) × (es ≡ Tallied n ∷ []) × (q ≡ p)
+Answer p q Rewind es = (es ≡ event.Rewind ∷ []) × (q ≡ p)
+Answer p q Tally es = (n : ℕ) × (es ≡ event.Tally n ∷ []) × (q ≡ p)
 
 -- the events answer the commands of the script one by one, in order
 abbrev pub Answers : List Token → List Token → List Command → List Event → Type 0
@@ -113,21 +114,21 @@ module _ {X : Type 0} (G : Ghosts X) where
     pub ran : Ran G (since new []) x
 
   -- no listing was begun: more than 16 atoms are open in the settled board, which comes back
-  pub record RunsUnlisted (board : Board X) (u : Unlisted X) : Type 0 where
-    pub granted : Granted G board u.settled
-    pub many : 16 < open_count u.settled.bounds
-    pub fault : u.fault ≡ TooManyOpen (open_count u.settled.bounds)
+  pub record RunsUnlisted (board : Board X) (u : Refused (Settled X)) : Type 0 where
+    pub granted : Granted G board u.back
+    pub many : 16 < open_count u.back.bounds
+    pub fault : u.fault ≡ TooManyOpen (open_count u.back.bounds)
 
   -- how a run ends: with the whole script, with a front of it where memory ran short, or with a refusal that leaves pool and log as they were
-  abbrev pub RunLaw : Board X → List Command → List Token → List Token → List Event → List Event → Outcome X → Type 0
-  RunLaw board script p q log after (Whole x) = Runs board script p q log after x
-  RunLaw board script p q log after (Short x) = (count : ℕ) × (count < length script) × Runs board (take count script) p q log after x
-  RunLaw board script p q log after (NotListed u) = RunsUnlisted board u × (q ≡ p) × (after ≡ log)
-  RunLaw board script p q log after (NotSettled r) = Denied G board r × (q ≡ p) × (after ≡ log)
+  abbrev pub RunLaw : Board X → List Command → List Token → List Token → List Event → List Event → Result (Listing X) (Unfinished X) → Type 0
+  RunLaw board script p q log after (Ok x) = Runs board script p q log after x
+  RunLaw board script p q log after (Err (Short x)) = (count : ℕ) × (count < length script) × Runs board (take count script) p q log after x
+  RunLaw board script p q log after (Err (NotListed u)) = RunsUnlisted board u × (q ≡ p) × (after ≡ log)
+  RunLaw board script p q log after (Err (NotSettled r)) = Denied G board r × (q ≡ p) × (after ≡ log)
 
 -- the script was not cut short
-abbrev pub InFull : {X : Type 0} → Outcome X → Type 0
-InFull (Whole x) = Unit {0}
-InFull (Short x) = ⊥
-InFull (NotListed u) = Unit {0}
-InFull (NotSettled r) = Unit {0}
+abbrev pub InFull : {X : Type 0} → Result (Listing X) (Unfinished X) → Type 0
+InFull (Ok x) = Unit {0}
+InFull (Err (Short x)) = ⊥
+InFull (Err (NotListed u)) = Unit {0}
+InFull (Err (NotSettled r)) = Unit {0}

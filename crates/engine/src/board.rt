@@ -6,7 +6,7 @@ ghost use Rattle.engine.specs.Boards.{Granted, Denied};
 
 use approx::Approximator;
 use atoms::Bounds;
-use faults::BenchFault;
+use faults::Refused;
 use solver::{bounds_after, settle};
 
 // A board that is read: nothing of it is settled.
@@ -20,13 +20,6 @@ pub struct Board<A> {
 pub struct Settled<A> {
     pub(crate) pile: A,
     pub(crate) bounds: Bounds,
-}
-
-// A board that could not be settled, and why: the board is as it was.
-#[derive(Drop)]
-pub struct Refused<A> {
-    pub fault: BenchFault,
-    pub board: Board<A>,
 }
 
 impl<A: Approximator> Board<A> {
@@ -44,16 +37,16 @@ impl<A: Approximator> Board<A> {
         bounds_after(&self.pile, rounds)
     }
 
-    // The settled board, or this board again with the fault.
-    pub fn settle(self) -> Result<Settled<A>, Refused<A>>
+    // The settled board, or this board again with the fault. A `match`, since either arm takes the board.
+    pub fn settle(self) -> Result<Settled<A>, Refused<Board<A>>>
         ensures { MatchResult result (Granted A.Approximator self) (Denied A.Approximator self) }
     {
         match settle(&self.pile) {
-            Ok(bounds) => {
-                let Board { pile } = self;
-                Ok(Settled { pile, bounds })
-            }
-            Err(fault) => Err(Refused { fault, board: self }),
+            Ok(bounds) => Ok(Settled {
+                pile: self.pile,
+                bounds,
+            }),
+            Err(fault) => Err(Refused { fault, back: self }),
         }
     }
 }

@@ -7,7 +7,7 @@ mod listing;
 mod pegs;
 mod runs;
 
-pub use board::{Board, Refused, Settled};
-pub use listing::{Listing, Token, Unclosed, Unlisted, Unpulled};
+pub use board::{Board, Settled};
+pub use listing::{Listing, Token};
 pub use pegs::Sense;
-pub use runs::{Command, Event, Outcome, play, run};
+pub use runs::{Command, Event, Unfinished, play, run};

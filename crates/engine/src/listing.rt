@@ -8,14 +8,14 @@ ghost use Rattle.solver.specs.Search.{Sought};
 ghost use Rattle.engine.specs.Standing.{standing};
 ghost use Rattle.engine.specs.Rules.{peg_fault, pull_fault};
 ghost use Rattle.engine.specs.Histories.{History};
-ghost use Rattle.engine.specs.Listings.{list_gives, close_gives, begun, moved_on, peg_gives, peg_leaves, pull_gives, pull_leaves, next_event, peg_event, pull_event, Listable, Ran};
-ghost use Rattle.engine.specs.declared.runs.Event.TheVariants.{Tallied, Rewound};
+ghost use Rattle.engine.specs.Listings.{list_gives, close_gives, begun, moved_on, peg_gives, peg_leaves, pull_gives, pull_leaves, peg_event, pull_event, Listable, Ran};
+ghost use Rattle.engine.specs.declared.runs.Event.TheVariants.{Next, Rewind, Tally};
 
 use super::board::Settled;
 use super::pegs::{Pegs, Sense};
 use approx::Approximator;
 use atoms::{Bounds, Interpretation};
-use faults::BenchFault;
+use faults::{BenchFault, Refused};
 use solver::{count, first_after, pegged};
 
 // The most atoms that may be open in a listing.
@@ -36,26 +36,6 @@ pub struct Token {
     sense: Sense,
 }
 
-// A settled board that could not be listed, and why.
-#[derive(Drop)]
-pub struct Unlisted<A> {
-    pub fault: BenchFault,
-    pub settled: Settled<A>,
-}
-
-// A token that no pull was granted for, and why.
-pub struct Unpulled {
-    pub fault: BenchFault,
-    pub token: Token,
-}
-
-// A listing that could not be closed, and why.
-#[derive(Drop)]
-pub struct Unclosed<A> {
-    pub fault: BenchFault,
-    pub listing: Listing<A>,
-}
-
 impl Token {
     // The atom that was pegged.
     pub fn atom(&self) -> u8
@@ -74,22 +54,21 @@ impl Token {
 
 impl<A: Approximator> Settled<A> {
     // Begins a listing without pegs, or hands the settled board back where too many atoms are open.
-    pub fn list(self) -> Result<Listing<A>, Unlisted<A>>
+    pub fn list(self) -> Result<Listing<A>, Refused<Settled<A>>>
         ensures gives { result ≡ list_gives self }
         ensures law { Settles (meaning A.Approximator self.pile) self.bounds → IfOk result (λ x. Ran A.Approximator [] x) }
     {
         let open = self.bounds.open_count();
         if open > MOST_OPEN {
-            return Err(Unlisted {
+            return Err(Refused {
                 fault: BenchFault::TooManyOpen(open),
-                settled: self,
+                back: self,
             });
         }
-        let Settled { pile, bounds } = self;
         Ok(Listing {
-            pile,
-            bounds,
-            pegs: Pegs::none(),
+            pile: self.pile,
+            bounds: self.bounds,
+            pegs: Pegs::default(),
             last: None,
         })
     }
@@ -115,21 +94,17 @@ impl<A: Approximator> Listing<A> {
     pub fn next(&mut self) -> Option<Interpretation>
         ensures gives { Listable A.Approximator self.old → Sought (Wanted (meaning A.Approximator self.old.pile) self.old.pegs.on self.old.pegs.off) self.old.last result }
         ensures leaves { self.new ≡ moved_on self.old result }
-        ensures law { (h : History) → Ran A.Approximator h self.old → Ran A.Approximator (next_event result ∷ h) self.new }
+        ensures law { (h : History) → Ran A.Approximator h self.old → Ran A.Approximator (Next result ∷ h) self.new }
     {
-        match first_after(&self.pile, self.pegged_bounds(), self.last) {
-            None => None,
-            Some(z) => {
-                self.last = Some(z);
-                Some(z)
-            }
-        }
+        let z = first_after(&self.pile, self.pegged_bounds(), self.last)?;
+        self.last = Some(z);
+        Some(z)
     }
 
     // How many stable interpretations agree with the pegs.
     pub fn tally(&self) -> u32
         ensures gives { Listable A.Approximator self.now → Counted (Wanted (meaning A.Approximator self.now.pile) self.now.pegs.on self.now.pegs.off) result }
-        ensures law { (h : History) → Ran A.Approximator h self.now → Ran A.Approximator (Tallied result ∷ h) self.now }
+        ensures law { (h : History) → Ran A.Approximator h self.now → Ran A.Approximator (Tally result ∷ h) self.now }
     {
         count(&self.pile, self.pegged_bounds())
     }
@@ -137,7 +112,7 @@ impl<A: Approximator> Listing<A> {
     // Begins anew.
     pub fn rewind(&mut self)
         ensures leaves { self.new ≡ begun self.old self.old.pegs }
-        ensures law { (h : History) → Ran A.Approximator h self.old → Ran A.Approximator (Rewound ∷ h) self.new }
+        ensures law { (h : History) → Ran A.Approximator h self.old → Ran A.Approximator (Rewind ∷ h) self.new }
     {
         self.begin_anew(self.pegs);
     }
@@ -159,14 +134,16 @@ impl<A: Approximator> Listing<A> {
     }
 
     // Takes the peg of the token out and begins anew; or hands the token back.
-    pub fn pull(&mut self, token: Token) -> Result<(), Unpulled>
+    pub fn pull(&mut self, token: Token) -> Result<(), Refused<Token>>
         ensures gives { result ≡ pull_gives (pull_fault (standing self.old.pegs) token.atom token.sense) token }
         ensures leaves { self.new ≡ pull_leaves (pull_fault (standing self.old.pegs) token.atom token.sense) self.old token }
         ensures law { (h : History) → Ran A.Approximator h self.old → Ran A.Approximator (pull_event token result ∷ h) self.new }
     {
         if !self.pegs.in_force(token.atom, token.sense) {
-            let fault = BenchFault::NotInForce(token.atom);
-            return Err(Unpulled { fault, token });
+            return Err(Refused {
+                fault: BenchFault::NotInForce(token.atom),
+                back: token,
+            });
         }
         let Token { atom, sense } = token;
         self.begin_anew(self.pegs.without(atom, sense));
@@ -174,22 +151,19 @@ impl<A: Approximator> Listing<A> {
     }
 
     // The settled board again, or the listing where pegs are in force.
-    pub fn close(self) -> Result<Settled<A>, Unclosed<A>>
+    pub fn close(self) -> Result<Settled<A>, Refused<Listing<A>>>
         ensures { result ≡ close_gives self }
     {
         let count = self.pegs.count();
         if count > 0 {
-            return Err(Unclosed {
+            return Err(Refused {
                 fault: BenchFault::PegsInForce(count),
-                listing: self,
+                back: self,
             });
         }
-        let Listing {
-            pile,
-            bounds,
-            pegs: _,
-            last: _,
-        } = self;
-        Ok(Settled { pile, bounds })
+        Ok(Settled {
+            pile: self.pile,
+            bounds: self.bounds,
+        })
     }
 }

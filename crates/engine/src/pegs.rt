@@ -1,11 +1,11 @@
 // Pegs: the atoms that are to be on, and those that are to be off.
 ghost use Rattle.std.specs.Prelude.{◌≡◌, ◌<◌, true, false, ◌||◌};
-ghost use Rattle.engine.specs.Standing.{no_pegs, standing, with_peg, without_peg, pegs_count, Turned};
+ghost use Rattle.engine.specs.Standing.{standing, with_peg, without_peg, pegs_count, Turned};
 ghost use Rattle.engine.specs.declared.pegs.Sense.TheVariants.{On, Off};
 
 use atoms::{Interpretation, has, only};
 
-// What a peg asks of its atom.
+// What a peg asks of its atom. The two stay two arguments: only a token holds them together, and nobody else may make one.
 #[derive(Clone, Copy, Debug, PartialEq, Eq)]
 pub enum Sense {
     On,
@@ -13,20 +13,13 @@ pub enum Sense {
 }
 
 // The pegs in force: a set of atoms for each sense.
-#[derive(Clone, Copy)]
+#[derive(Clone, Copy, Default)]
 pub(crate) struct Pegs {
     pub(crate) on: Interpretation,
     pub(crate) off: Interpretation,
 }
 
 impl Pegs {
-    // No pegs.
-    pub(crate) fn none() -> Pegs
-        ensures { result ≡ no_pegs }
-    {
-        Pegs { on: 0, off: 0 }
-    }
-
     // Whether a peg of the atom and the sense is in force.
     pub(crate) fn in_force(self, atom: u8, sense: Sense) -> bool
         ensures { result ≡ standing self atom sense }
@@ -41,10 +34,10 @@ impl Pegs {
     pub(crate) fn holds(self, atom: u8) -> bool
         ensures { result ≡ (standing self atom On || standing self atom Off) }
     {
-        has(self.on, atom) | has(self.off, atom)
+        self.in_force(atom, Sense::On) || self.in_force(atom, Sense::Off)
     }
 
-    // With one peg more.
+    // With one peg more. This and `without` spell the sets out: one function over a step and a sense is no plainer.
     pub(crate) fn with(self, atom: u8, sense: Sense) -> Pegs
         ensures is { result ≡ with_peg self atom sense }
         ensures holds { atom < 64 → Turned (standing self) atom sense true (standing result) }
@@ -52,11 +45,11 @@ impl Pegs {
         match sense {
             Sense::On => Pegs {
                 on: self.on | only(atom),
-                off: self.off,
+                ..self
             },
             Sense::Off => Pegs {
-                on: self.on,
                 off: self.off | only(atom),
+                ..self
             },
         }
     }
@@ -69,11 +62,11 @@ impl Pegs {
         match sense {
             Sense::On => Pegs {
                 on: self.on & !only(atom),
-                off: self.off,
+                ..self
             },
             Sense::Off => Pegs {
-                on: self.on,
                 off: self.off & !only(atom),
+                ..self
             },
         }
     }

@@ -1,31 +1,28 @@
 // Whole runs of a listing: a script of commands is performed, and what each call gave is written down.
 ghost use Rattle.std.specs.Prelude.{◌≡◌, ◌+◌, ◌<◌, ◌≤◌, true, List, [], ◌∷◌, length, is_ok, vec_len, vec_capacity, MatchResult};
 ghost use Rattle.engine.specs.Scripts.{events, OneMore, Acts, Performs, Plays, PlaysFront, RunLaw, InFull};
-ghost use Rattle.engine.specs.declared.listing.Token.{Token as Tok};
-ghost use Rattle.engine.specs.declared.runs.Command.TheVariants.{Next, Peg, Pull};
+ghost use Rattle.engine.specs.declared.runs.Command.TheVariants.{Peg, Pull};
+ghost use Rattle.engine.specs.declared.runs.Unfinished.TheVariants.{NotListed, NotSettled};
 
-use super::board::{Board, Refused};
-use super::listing::{Listing, Token, Unlisted, Unpulled};
+use super::board::{Board, Settled};
+use super::listing::{Listing, Token};
 use super::pegs::Sense;
 use approx::Approximator;
 use atoms::Interpretation;
-use faults::BenchFault;
+use faults::{BenchFault, Refused};
 use std::alloc::AllocError;
 
-// What happened at a listing, and what it gave.
+// What was called at a listing, and what it gave.
 #[derive(Clone, Copy)]
 pub enum Event {
-    Handed(Interpretation),
-    NoMore,
-    Tallied(u32),
-    Pegged(u8, Sense),
-    PegRefused(u8, Sense, BenchFault),
-    Pulled(u8, Sense),
-    PullRefused(u8, Sense, BenchFault),
-    Rewound,
+    Next(Option<Interpretation>),
+    Peg(u8, Sense, Result<(), BenchFault>),
+    Pull(u8, Sense, Result<(), BenchFault>),
+    Rewind,
+    Tally(u32),
 }
 
-// What is asked of a listing; a pull names the place of its token in the pool.
+// What is asked of a listing; a pull names the place of its token in the pool. Values and no closures: a script is read and kept.
 #[derive(Clone, Copy)]
 pub enum Command {
     Next,
@@ -35,26 +32,33 @@ pub enum Command {
     Tally,
 }
 
-// How a run ended: with all of its script performed, with a front of it where memory ran short, or before it began.
+// Why a run did not perform its whole script: memory ran short after a front of it, or no listing was begun.
 #[derive(Drop)]
-pub enum Outcome<A> {
-    Whole(Listing<A>),
+pub enum Unfinished<A> {
     Short(Listing<A>),
-    NotListed(Unlisted<A>),
-    NotSettled(Refused<A>),
+    NotListed(Refused<Settled<A>>),
+    NotSettled(Refused<Board<A>>),
 }
 
-// Asks for the following interpretation.
-fn hand_out<A: Approximator>(listing: &mut Listing<A>) -> Event
-    ensures { (p : List Tok) → Acts A.Approximator Next p p listing.old listing.new (result ∷ []) }
-{
-    match listing.next() {
-        Some(z) => Event::Handed(z),
-        None => Event::NoMore,
+impl<A> From<Refused<Settled<A>>> for Unfinished<A> {
+    ghost from_gives = { λ e r. r ≡ NotListed e };
+
+    fn from(e: Refused<Settled<A>>) -> Unfinished<A> {
+        Unfinished::NotListed(e)
     }
 }
 
-// Pegs the atom; a token that is granted goes to the pool, which has room for it.
+impl<A> From<Refused<Board<A>>> for Unfinished<A> {
+    ghost from_gives = { λ e r. r ≡ NotSettled e };
+
+    fn from(e: Refused<Board<A>>) -> Unfinished<A> {
+        Unfinished::NotSettled(e)
+    }
+}
+
+// Pegs the atom; a token that is granted goes to the pool, which has room for it. Listing, pool and log stay
+// parameters here and below, and the room in the pool a clause of each: every one has an owner of its own, and a type for
+// them would be loans, made and ended at every call.
 fn peg_into<A: Approximator>(
     listing: &mut Listing<A>,
     atom: u8,
@@ -65,12 +69,13 @@ fn peg_into<A: Approximator>(
     ensures acts { Acts A.Approximator (Peg atom sense) tokens.old.items tokens.new.items listing.old listing.new (result ∷ []) }
     ensures room { OneMore (vec_len tokens.old) (vec_capacity tokens.old) (vec_len tokens.new) (vec_capacity tokens.new) }
 {
+    // a `map` would hide the push in a closure, and be no plainer
     match listing.peg(atom, sense) {
         Ok(token) => {
             tokens.push_reserved(token);
-            Event::Pegged(atom, sense)
+            Event::Peg(atom, sense, Ok(()))
         }
-        Err(fault) => Event::PegRefused(atom, sense, fault),
+        Err(fault) => Event::Peg(atom, sense, Err(fault)),
     }
 }
 
@@ -90,12 +95,12 @@ fn pull_from<A: Approximator>(
     let token = tokens.remove(place);
     let atom = token.atom();
     let sense = token.sense();
+    // a `match`, as above: one arm puts the token back
     match listing.pull(token) {
-        Ok(()) => Some(Event::Pulled(atom, sense)),
-        Err(back) => {
-            let Unpulled { fault, token } = back;
-            tokens.push_reserved(token);
-            Some(Event::PullRefused(atom, sense, fault))
+        Ok(()) => Some(Event::Pull(atom, sense, Ok(()))),
+        Err(refused) => {
+            tokens.push_reserved(refused.back);
+            Some(Event::Pull(atom, sense, Err(refused.fault)))
         }
     }
 }
@@ -111,14 +116,14 @@ fn act<A: Approximator>(
     ensures room { OneMore (vec_len tokens.old) (vec_capacity tokens.old) (vec_len tokens.new) (vec_capacity tokens.new) }
 {
     match command {
-        Command::Next => Some(hand_out(listing)),
+        Command::Next => Some(Event::Next(listing.next())),
         Command::Peg(atom, sense) => Some(peg_into(listing, atom, sense, tokens)),
         Command::Pull(place) => pull_from(listing, place, tokens),
         Command::Rewind => {
             listing.rewind();
-            Some(Event::Rewound)
+            Some(Event::Rewind)
         }
-        Command::Tally => Some(Event::Tallied(listing.tally())),
+        Command::Tally => Some(Event::Tally(listing.tally())),
     }
 }
 
@@ -168,18 +173,14 @@ pub fn run<A: Approximator>(
     script: &[Command],
     tokens: &mut Vec<Token>,
     log: &mut Vec<Event>,
-) -> Outcome<A>
+) -> Result<Listing<A>, Unfinished<A>>
     ensures law { RunLaw A.Approximator board script.now tokens.old.items tokens.new.items log.old.items log.new.items result }
     ensures whole { vec_len tokens.old + length script.now ≤ vec_capacity tokens.old → vec_len log.old + length script.now ≤ vec_capacity log.old → InFull result }
 {
-    match board.settle() {
-        Err(back) => Outcome::NotSettled(back),
-        Ok(settled) => match settled.list() {
-            Err(back) => Outcome::NotListed(back),
-            Ok(mut listing) => match play(&mut listing, script, tokens, log) {
-                Ok(()) => Outcome::Whole(listing),
-                Err(_) => Outcome::Short(listing),
-            },
-        },
+    let mut listing = board.settle()?.list()?;
+    // a `match`, since either arm takes the listing
+    match play(&mut listing, script, tokens, log) {
+        Ok(()) => Ok(listing),
+        Err(_) => Err(Unfinished::Short(listing)),
     }
 }

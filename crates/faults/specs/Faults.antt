@@ -1,5 +1,6 @@
 -- The table of the faults: each one's number, layer and spot.
-use Rattle.std.specs.Prelude.{List, ℕ, codes}
+use Rattle.std.specs.Prelude.{List, ℕ, ◌++◌, codes}
+use Rattle.std.specs.Fmt.{decimal}
 use Rattle.faults.specs.declared.Spot.{Spot}
 use Rattle.faults.specs.declared.Layer.{Layer}
 use Rattle.faults.specs.declared.Layer.TheVariants as layer
@@ -53,3 +54,8 @@ abbrev pub layer_name : Layer → List ℕ
 layer_name layer.Text = codes "text"
 layer_name layer.Sheet = codes "sheet"
 layer_name layer.Bench = codes "bench"
+
+-- What is printed of a fault: its number, its layer's word, its line and its column, with one space between.
+abbrev pub told_text : Told → List ℕ
+told_text told =
+    decimal told.number ++ codes " " ++ layer_name told.layer ++ codes " " ++ decimal told.spot.line ++ codes " " ++ decimal told.spot.column

@@ -2,10 +2,13 @@
 // Each fault has a number, the layer that found it, and its spot in the text; specs/Faults.antt is the one table of them.
 #![tactic(auto)]
 
-ghost use Rattle.std.specs.Prelude.{◌≡◌};
+ghost use Rattle.std.specs.Prelude.{◌≡◌, Some};
 ghost use Rattle.faults.specs.declared.BenchFault.TheVariants.{Sheet};
 ghost use Rattle.faults.specs.declared.SheetFault.TheVariants.{Text};
-ghost use Rattle.faults.specs.Faults.{at, text_told, sheet_told, bench_told, layer_name};
+ghost use Rattle.faults.specs.Faults.{at, text_told, sheet_told, bench_told, layer_name, told_text};
+
+use std::error::Error;
+use std::fmt;
 
 // A place in a text: a line and a column, both from 1. A fault of the text as a whole stands at 0 0.
 #[derive(Clone, Copy, Debug, PartialEq, Eq)]
@@ -65,6 +68,13 @@ pub enum BenchFault {
     PegsInForce(u32),
 }
 
+// What was refused, handed back as it was, with the reason. It can be let go where what it holds can.
+#[derive(Drop)]
+pub struct Refused<T> {
+    pub fault: BenchFault,
+    pub back: T,
+}
+
 impl From<TextFault> for SheetFault {
     ghost from_gives = { λ e r. r ≡ Text e };
 
@@ -93,6 +103,46 @@ impl Layer {
         }
     }
 }
+
+impl<T: Drop> From<Refused<T>> for BenchFault {
+    ghost from_gives = { λ refused fault. fault ≡ refused.fault };
+
+    fn from(refused: Refused<T>) -> BenchFault {
+        let Refused { fault, back: _ } = refused;
+        fault
+    }
+}
+
+impl fmt::Display for Layer {
+    ghost output = { λ layer. Some (layer_name layer) };
+
+    fn fmt<W: fmt::Write>(&self, f: &mut fmt::Formatter<W>) -> fmt::Result {
+        f.write_str(self.name())
+    }
+}
+
+impl fmt::Display for Told {
+    ghost output = { λ told. Some (told_text told) };
+
+    fn fmt<W: fmt::Write>(&self, f: &mut fmt::Formatter<W>) -> fmt::Result {
+        let number = self.number;
+        let layer = self.layer;
+        let line = self.spot.line;
+        let column = self.spot.column;
+        write!(f, "{number} {layer} {line} {column}")
+    }
+}
+
+impl fmt::Display for BenchFault {
+    ghost output = { λ fault. Some (told_text (bench_told fault)) };
+
+    fn fmt<W: fmt::Write>(&self, f: &mut fmt::Formatter<W>) -> fmt::Result {
+        let told = self.told();
+        write!(f, "{told}")
+    }
+}
+
+impl Error for BenchFault {}
 
 impl Spot {
     // Where a fault of the text as a whole stands.

@@ -10,13 +10,9 @@ use tables::table::{RelayLine, Table};
 
 // The set of some atoms.
 fn set_of(atoms: &[u8]) -> Interpretation
-    ensures { result ≡ set_of 0 atoms.now }
+    ensures { result ≡ set_of atoms.now }
 {
-    let mut set: Interpretation = 0;
-    for atom in atoms {
-        set |= only(*atom);
-    }
-    set
+    atoms.iter().fold(0, |set, atom| set | only(*atom))
 }
 
 // The relay lines as written, each as an atom and the set of its attackers.
@@ -31,7 +27,7 @@ fn lines_of(lines: &[RelayLine]) -> RelayTable
 }
 
 impl Framework {
-    // The framework of the relay lines that a sheet's table holds.
+    // The framework of the relay lines that a sheet's table holds. No `From`: the rest of the table is left out.
     pub fn of(table: &Table) -> Framework
         ensures { result ≡ framework_of table.now }
     {

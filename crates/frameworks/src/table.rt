@@ -1,14 +1,14 @@
 // The relay lines of a framework: which atoms have one, and which atoms attack each.
-ghost use Rattle.std.specs.Prelude.{◌≡◌, ℕ, ◌^◌, ◌<◌, min, if◌then◌else◌};
-ghost use Rattle.atoms.specs.Sets.{Has, collected};
+ghost use Rattle.std.specs.Prelude.{◌≡◌, ℕ, ◌<◌, min};
+ghost use Rattle.atoms.specs.Sets.{Has};
 ghost use Rattle.frameworks.specs.Lines.{no_lines, with_line, stands, unattacked, Stands};
 
-use atoms::{Interpretation, has, only};
+use atoms::{Interpretation, those};
 
+// For each atom the set of its attackers, if it has a line.
 #[derive(Clone, Copy)]
 pub struct RelayTable {
-    lines: Interpretation,
-    attackers: [Interpretation; 64],
+    lines: [Option<Interpretation>; 64],
 }
 
 impl RelayTable {
@@ -16,19 +16,17 @@ impl RelayTable {
     pub fn new() -> RelayTable
         ensures { result ≡ no_lines }
     {
-        RelayTable {
-            lines: 0,
-            attackers: [0; 64],
-        }
+        RelayTable { lines: [None; 64] }
     }
 
     // Gives the atom a line with these attackers, in place of any that it had. There are 64 atoms: any other changes nothing.
+    #[tactic(auto, using(std::proofs::lemmas::List::set_past))]
     pub fn set_line(&mut self, atom: u8, attackers: Interpretation)
         ensures { self.new ≡ with_line self.old atom attackers }
     {
+        // By the index: after a `get_mut` the proof knows nothing of the other rows.
         if atom < 64 {
-            self.lines |= only(atom);
-            self.attackers[atom as usize] = attackers;
+            self.lines[atom as usize] = Some(attackers);
         }
     }
 
@@ -37,19 +35,7 @@ impl RelayTable {
         requires { atom < 64 }
         ensures { result ≡ stands self.now against atom }
     {
-        has(self.lines, atom) && self.attackers[atom as usize] & against == 0
-    }
-
-    // The atom alone if it stands, and no atom otherwise.
-    fn share(&self, against: Interpretation, atom: u8) -> Interpretation
-        requires { atom < 64 }
-        ensures { result ≡ (if stands self.now against atom then 2 ^ atom else 0) }
-    {
-        if self.stands(against, atom) {
-            only(atom)
-        } else {
-            0
-        }
+        self.lines[atom as usize].is_some_and(|attackers| attackers & against == 0)
     }
 
     // The atoms below the width that have a line none of whose attackers is in the set.
@@ -58,10 +44,6 @@ impl RelayTable {
         ensures has { (i : ℕ) → Has result i → (i < min width 64) × Stands self.now against i }
         ensures all { (i : ℕ) → i < min width 64 → Stands self.now against i → Has result i }
     {
-        let mut all: Interpretation = 0;
-        for atom in 0..width.min(64) {
-            all |= self.share(against, atom);
-        }
-        all
+        those(width, |atom| self.stands(against, atom))
     }
 }

@@ -3,17 +3,20 @@
 #![tactic(auto)]
 
 mod count;
+mod line;
 mod load;
 mod name;
 mod names;
 mod relay;
+mod rows;
 mod rule;
 mod wrong;
 
-pub use count::CountState;
-pub use load::LoadState;
-pub use name::NameState;
+pub use count::{CountLine, CountState};
+pub use line::{LineKind, Standing};
+pub use load::{LoadLine, LoadState};
+pub use name::{NameLine, NameState};
 pub use names::Names;
-pub use relay::RelayState;
-pub use rule::RuleState;
+pub use relay::{RelayRow, RelayState};
+pub use rule::{RuleLine, RuleState};
 pub use wrong::Wrong;

@@ -1,13 +1,19 @@
 // A load line: a kind, a comparison, a limit and entries.
-ghost use Rattle.std.specs.Prelude.{◌≡◌, take};
-ghost use Rattle.text.specs.Names.{names_of};
+ghost use Rattle.std.specs.Prelude.{◌≡◌};
 ghost use Rattle.text.specs.Words.{said};
+ghost use Rattle.grammar.specs.declared.load.LoadState.TheVariants.{Start};
+ghost use Rattle.grammar.specs.declared.wrong.Wrong.TheVariants.{Misplaced};
+ghost use Rattle.grammar.specs.Names.{known};
+ghost use Rattle.grammar.specs.Said.{kind_said, comparison_said};
+ghost use Rattle.grammar.specs.Wrongs.{or_wrong};
 ghost use Rattle.grammar.specs.Loads.{with_entry, condition, entry_begun, load_next, load_done};
 
-use super::names::{Names, comparison, is_not, kind};
+use super::line::{LineKind, Standing};
+use super::names::Names;
+use super::rows::with_item;
 use super::wrong::Wrong;
 use tables::table::{Aggregate, Comparison, Entry, Kind};
-use text::word::Word;
+use text::word::{Key, Word};
 
 #[derive(Clone, Copy)]
 pub enum LoadState {
@@ -19,91 +25,123 @@ pub enum LoadState {
     Negated(Aggregate, i16),
 }
 
+// A load line, by the names of the atoms.
+#[derive(Clone, Copy)]
+pub struct LoadLine<'a> {
+    pub names: Names<'a>,
+}
+
+// The kind of aggregate that a word begins. This and the next stay two: of a generic one each use would have to show again what
+// `TryFrom` gives of its type.
+fn kind(word: Word) -> Result<Kind, Wrong>
+    ensures { result ≡ or_wrong (kind_said (said word.entry).0) Misplaced (λ kind. kind) }
+{
+    let key = word.key().ok_or(Wrong::Misplaced)?;
+    Kind::try_from(key).map_err(|_| Wrong::Misplaced)
+}
+
+// The comparison that a word is.
+fn comparison(word: Word) -> Result<Comparison, Wrong>
+    ensures { result ≡ or_wrong (comparison_said (said word.entry).0) Misplaced (λ comparison. comparison) }
+{
+    let key = word.key().ok_or(Wrong::Misplaced)?;
+    Comparison::try_from(key).map_err(|_| Wrong::Misplaced)
+}
+
 // The aggregate with one entry more.
-fn put(mut aggregate: Aggregate, weight: i16, atom: u8, negated: bool) -> Aggregate
+fn with_entry(aggregate: Aggregate, weight: i16, atom: u8, negated: bool) -> Aggregate
     ensures { result ≡ with_entry aggregate weight atom negated }
 {
-    let _ = aggregate.entries.push(Entry {
+    let entry = Entry {
         weight,
         atom,
         negated,
-    });
-    aggregate
-}
-
-// The condition of an entry: `not`, or the name of an atom.
-fn begin_condition(
-    names: Names,
-    aggregate: Aggregate,
-    weight: i16,
-    word: Word,
-) -> Result<LoadState, Wrong>
-    ensures { result ≡ condition (names_of names.entry.text.now (take 64 names.entry.places.now)) aggregate weight (said word.entry).0 }
-{
-    if is_not(word.key()) {
-        return Ok(LoadState::Negated(aggregate, weight));
-    }
-    match names.atom(word) {
-        Some(atom) => Ok(LoadState::Entries(put(aggregate, weight, atom, false))),
-        None => Err(Wrong::NotAName),
+    };
+    Aggregate {
+        entries: with_item(aggregate.entries, entry),
+        ..aggregate
     }
 }
 
-// An entry of a sum begins with its weight; one of a count weighs 1 and begins with its condition.
-fn begin_entry(names: Names, aggregate: Aggregate, word: Word) -> Result<LoadState, Wrong>
-    ensures { result ≡ entry_begun (names_of names.entry.text.now (take 64 names.entry.places.now)) aggregate aggregate.kind (said word.entry).0 }
-{
-    match aggregate.kind {
-        Kind::Sum => match word.number_in(-10000, 10000) {
-            Some(weight) => Ok(LoadState::Weighted(aggregate, weight as i16)),
-            None => Err(Wrong::BadNumber),
-        },
-        Kind::Count => begin_condition(names, aggregate, 1, word),
-    }
-}
-
-impl LoadState {
-    // After one word more.
-    pub fn next(self, names: Names, word: Word) -> Result<LoadState, Wrong>
-        ensures { result ≡ load_next (names_of names.entry.text.now (take 64 names.entry.places.now)) self (said word.entry).0 }
+impl LoadLine<'_> {
+    // The condition of an entry: `not`, or the name of an atom.
+    fn begin_condition(
+        &self,
+        aggregate: Aggregate,
+        weight: i16,
+        word: Word,
+    ) -> Result<LoadState, Wrong>
+        ensures { result ≡ condition (known self.now.names) aggregate weight (said word.entry).0 }
     {
-        match self {
-            LoadState::Start => match kind(word.key()) {
-                Some(kind) => Ok(LoadState::Kinded(kind)),
-                None => Err(Wrong::Misplaced),
-            },
-            LoadState::Kinded(kind) => match comparison(word.key()) {
-                Some(comparison) => Ok(LoadState::Compared(kind, comparison)),
-                None => Err(Wrong::Misplaced),
-            },
-            LoadState::Compared(kind, comparison) => match word.number_in(-1000000, 1000000) {
-                Some(limit) => Ok(LoadState::Entries(Aggregate::new(kind, comparison, limit))),
-                None => Err(Wrong::BadNumber),
-            },
-            LoadState::Entries(aggregate) => {
-                if aggregate.entries.has_room() {
-                    begin_entry(names, aggregate, word)
-                } else {
-                    Err(Wrong::Misplaced)
-                }
+        if word.key() == Some(Key::Not) {
+            return Ok(LoadState::Negated(aggregate, weight));
+        }
+        let atom = self.names.atom(word).ok_or(Wrong::NotAName)?;
+        Ok(LoadState::Entries(with_entry(aggregate, weight, atom, false)))
+    }
+
+    // An entry of a sum begins with its weight; one of a count weighs 1 and begins with its condition.
+    fn begin_entry(&self, aggregate: Aggregate, word: Word) -> Result<LoadState, Wrong>
+        ensures { result ≡ entry_begun (known self.now.names) aggregate aggregate.kind (said word.entry).0 }
+    {
+        match aggregate.kind {
+            Kind::Sum => {
+                let weight = word.number_in(-10000, 10000).ok_or(Wrong::BadNumber)?;
+                Ok(LoadState::Weighted(aggregate, weight as i16))
             }
+            Kind::Count => self.begin_condition(aggregate, 1, word),
+        }
+    }
+}
+
+impl LineKind for LoadLine<'_> {
+    type State = LoadState;
+
+    type Row = Aggregate;
+
+    ghost begins = { Start };
+
+    ghost missing = { Misplaced };
+
+    ghost follows = { λ line above from. load_next (known line.names) };
+
+    ghost gives = { load_done };
+
+    fn start(&self) -> LoadState {
+        LoadState::Start
+    }
+
+    fn next(
+        &self,
+        _at: &Standing<Aggregate>,
+        state: LoadState,
+        word: Word,
+    ) -> Result<LoadState, Wrong> {
+        match state {
+            LoadState::Start => Ok(LoadState::Kinded(kind(word)?)),
+            LoadState::Kinded(kind) => Ok(LoadState::Compared(kind, comparison(word)?)),
+            LoadState::Compared(kind, comparison) => {
+                let limit = word.number_in(-1000000, 1000000).ok_or(Wrong::BadNumber)?;
+                Ok(LoadState::Entries(Aggregate::new(kind, comparison, limit)))
+            }
+            LoadState::Entries(aggregate) if aggregate.entries.has_room() => {
+                self.begin_entry(aggregate, word)
+            }
+            LoadState::Entries(_) => Err(Wrong::Misplaced),
             LoadState::Weighted(aggregate, weight) => {
-                begin_condition(names, aggregate, weight, word)
+                self.begin_condition(aggregate, weight, word)
             }
-            LoadState::Negated(aggregate, weight) => match names.atom(word) {
-                Some(atom) => Ok(LoadState::Entries(put(aggregate, weight, atom, true))),
-                None => Err(Wrong::NotAName),
-            },
+            LoadState::Negated(aggregate, weight) => {
+                let atom = self.names.atom(word).ok_or(Wrong::NotAName)?;
+                Ok(LoadState::Entries(with_entry(aggregate, weight, atom, true)))
+            }
         }
     }
 
-    // The aggregate, if the line may end here.
-    pub fn done(self) -> Option<Aggregate>
-        ensures { result ≡ load_done self }
-    {
-        match self {
-            LoadState::Entries(aggregate) => Some(aggregate),
-            _ => None,
+    fn done(&self, state: LoadState) -> Result<Aggregate, Wrong> {
+        match state {
+            LoadState::Entries(aggregate) => Ok(aggregate),
+            _ => Err(Wrong::Misplaced),
         }
     }
 }

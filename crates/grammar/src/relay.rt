@@ -1,13 +1,17 @@
 // A relay line: an atom that has none yet, `!`, and its attackers.
-ghost use Rattle.std.specs.Prelude.{◌≡◌, take};
-ghost use Rattle.text.specs.Names.{names_of};
+ghost use Rattle.std.specs.Prelude.{◌≡◌};
 ghost use Rattle.text.specs.Words.{said};
-ghost use Rattle.grammar.specs.Relays.{has_line, with_attacker, relay_next, relay_done};
+ghost use Rattle.grammar.specs.declared.relay.RelayState.TheVariants.{Start};
+ghost use Rattle.grammar.specs.declared.wrong.Wrong.TheVariants.{Misplaced};
+ghost use Rattle.grammar.specs.Names.{known};
+ghost use Rattle.grammar.specs.Relays.{has_line, relay_next, relay_done};
 
-use super::names::{Names, is_bang};
+use super::line::{LineKind, Standing};
+use super::names::Names;
+use super::rows::with_item;
 use super::wrong::Wrong;
 use tables::table::RelayLine;
-use text::word::Word;
+use text::word::{Key, Word};
 
 #[derive(Clone, Copy)]
 pub enum RelayState {
@@ -16,68 +20,68 @@ pub enum RelayState {
     Attackers(RelayLine),
 }
 
+// A line of a relay, by the names of the atoms; no line above is of the same atom.
+#[derive(Clone, Copy)]
+pub struct RelayRow<'a> {
+    pub names: Names<'a>,
+}
+
 // Whether an atom has one of these lines.
 fn has_line(atom: u8, lines: &[RelayLine]) -> bool
     ensures { result ≡ has_line atom lines.now }
 {
-    for line in lines {
-        if line.atom == atom {
-            return true;
-        }
+    lines.iter().any(|line| line.atom == atom)
+}
+
+impl LineKind for RelayRow<'_> {
+    type State = RelayState;
+
+    type Row = RelayLine;
+
+    ghost begins = { Start };
+
+    ghost missing = { Misplaced };
+
+    ghost follows = { λ line above from. relay_next (known line.names) above };
+
+    ghost gives = { relay_done };
+
+    fn start(&self) -> RelayState {
+        RelayState::Start
     }
-    false
-}
 
-// The relay line with one attacker more.
-fn put(mut line: RelayLine, atom: u8) -> RelayLine
-    ensures { result ≡ with_attacker line atom }
-{
-    let _ = line.attackers.push(atom);
-    line
-}
-
-impl RelayState {
-    // After one word more, where these relay lines stand above.
-    pub fn next(self, names: Names, lines: &[RelayLine], word: Word) -> Result<RelayState, Wrong>
-        ensures { result ≡ relay_next (names_of names.entry.text.now (take 64 names.entry.places.now)) lines.now self (said word.entry).0 }
-    {
-        match self {
-            RelayState::Start => match names.atom(word) {
-                Some(atom) => {
-                    if has_line(atom, lines) {
-                        Err(Wrong::SecondLine)
-                    } else {
-                        Ok(RelayState::Named(atom))
-                    }
+    fn next(
+        &self,
+        at: &Standing<RelayLine>,
+        state: RelayState,
+        word: Word,
+    ) -> Result<RelayState, Wrong> {
+        match state {
+            RelayState::Start => {
+                let atom = self.names.atom(word).ok_or(Wrong::NotAName)?;
+                if has_line(atom, at.above) {
+                    return Err(Wrong::SecondLine);
                 }
-                None => Err(Wrong::NotAName),
-            },
-            RelayState::Named(atom) => {
-                if is_bang(word.key()) {
-                    Ok(RelayState::Attackers(RelayLine::new(atom)))
-                } else {
-                    Err(Wrong::Misplaced)
-                }
+                Ok(RelayState::Named(atom))
             }
-            RelayState::Attackers(line) => {
-                if !line.attackers.has_room() {
-                    return Err(Wrong::Misplaced);
-                }
-                match names.atom(word) {
-                    Some(atom) => Ok(RelayState::Attackers(put(line, atom))),
-                    None => Err(Wrong::NotAName),
-                }
+            RelayState::Named(atom) if word.key() == Some(Key::Bang) => {
+                Ok(RelayState::Attackers(RelayLine::new(atom)))
             }
+            RelayState::Attackers(line) if line.attackers.has_room() => {
+                let atom = self.names.atom(word).ok_or(Wrong::NotAName)?;
+                Ok(RelayState::Attackers(RelayLine {
+                    attackers: with_item(line.attackers, atom),
+                    ..line
+                }))
+            }
+            _ => Err(Wrong::Misplaced),
         }
     }
 
-    // The relay line, if it may end here.
-    pub fn done(self) -> Option<RelayLine>
-        ensures { result ≡ relay_done self }
-    {
-        match self {
-            RelayState::Attackers(line) => Some(line),
-            _ => None,
+    fn done(&self, state: RelayState) -> Result<RelayLine, Wrong> {
+        match state {
+            RelayState::Attackers(line) => Ok(line),
+            _ => Err(Wrong::Misplaced),
         }
     }
 }

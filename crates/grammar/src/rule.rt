@@ -1,13 +1,17 @@
 // A rule line: a head alone, or a head, `if` and items.
-ghost use Rattle.std.specs.Prelude.{◌≡◌, take};
-ghost use Rattle.text.specs.Names.{names_of};
+ghost use Rattle.std.specs.Prelude.{◌≡◌};
 ghost use Rattle.text.specs.Words.{said};
+ghost use Rattle.grammar.specs.declared.rule.RuleState.TheVariants.{Start};
+ghost use Rattle.grammar.specs.declared.wrong.Wrong.TheVariants.{Misplaced};
+ghost use Rattle.grammar.specs.Names.{known};
 ghost use Rattle.grammar.specs.Rules.{with_item, item_begun, rule_next, rule_done};
 
-use super::names::{Names, below, is_if, is_load, is_not};
+use super::line::{LineKind, Standing};
+use super::names::{Names, natural};
+use super::rows;
 use super::wrong::Wrong;
 use tables::table::{Item, Rule};
-use text::word::Word;
+use text::word::{Key, Word};
 
 #[derive(Clone, Copy)]
 pub enum RuleState {
@@ -18,79 +22,87 @@ pub enum RuleState {
     Loaded(Rule),
 }
 
+// A rule line, by the names of the atoms, where so many loads are announced.
+#[derive(Clone, Copy)]
+pub struct RuleLine<'a> {
+    pub names: Names<'a>,
+    pub loads: u8,
+}
+
 // The rule with one item more.
-fn put(mut rule: Rule, item: Item) -> Rule
+fn with_item(rule: Rule, item: Item) -> Rule
     ensures { result ≡ with_item rule item }
 {
-    let _ = rule.items.push(item);
-    rule
-}
-
-// An item: `not` and a name, `load` and a number, or a name.
-fn begin_item(names: Names, rule: Rule, word: Word) -> Result<RuleState, Wrong>
-    ensures { result ≡ item_begun (names_of names.entry.text.now (take 64 names.entry.places.now)) rule (said word.entry).0 }
-{
-    if is_not(word.key()) {
-        return Ok(RuleState::Negated(rule));
-    }
-    if is_load(word.key()) {
-        return Ok(RuleState::Loaded(rule));
-    }
-    match names.atom(word) {
-        Some(atom) => Ok(RuleState::Items(put(rule, Item::Atom(atom)))),
-        None => Err(Wrong::NotAName),
+    Rule {
+        items: rows::with_item(rule.items, item),
+        ..rule
     }
 }
 
-impl RuleState {
-    // After one word more, where so many loads are announced.
-    pub fn next(self, names: Names, loads: u8, word: Word) -> Result<RuleState, Wrong>
-        ensures { result ≡ rule_next (names_of names.entry.text.now (take 64 names.entry.places.now)) loads self (said word.entry).0 }
+impl RuleLine<'_> {
+    // An item: `not` and a name, `load` and a number, or a name.
+    fn begin_item(&self, rule: Rule, word: Word) -> Result<RuleState, Wrong>
+        ensures { result ≡ item_begun (known self.now.names) rule (said word.entry).0 }
     {
-        match self {
-            RuleState::Start => match names.atom(word) {
-                Some(head) => Ok(RuleState::Headed(head)),
-                None => Err(Wrong::NotAName),
-            },
-            RuleState::Headed(head) => {
-                if is_if(word.key()) {
-                    Ok(RuleState::Items(Rule::new(head)))
-                } else {
-                    Err(Wrong::Misplaced)
-                }
+        match word.key() {
+            Some(Key::Not) => Ok(RuleState::Negated(rule)),
+            Some(Key::Load) => Ok(RuleState::Loaded(rule)),
+            _ => {
+                let atom = self.names.atom(word).ok_or(Wrong::NotAName)?;
+                Ok(RuleState::Items(with_item(rule, Item::Atom(atom))))
             }
-            RuleState::Items(rule) => {
-                if rule.items.has_room() {
-                    begin_item(names, rule, word)
-                } else {
-                    Err(Wrong::Misplaced)
-                }
+        }
+    }
+}
+
+impl LineKind for RuleLine<'_> {
+    type State = RuleState;
+
+    type Row = Rule;
+
+    ghost begins = { Start };
+
+    ghost missing = { Misplaced };
+
+    ghost follows = { λ line above from. rule_next (known line.names) line.loads };
+
+    ghost gives = { rule_done };
+
+    fn start(&self) -> RuleState {
+        RuleState::Start
+    }
+
+    fn next(&self, _at: &Standing<Rule>, state: RuleState, word: Word) -> Result<RuleState, Wrong> {
+        let RuleLine { names, loads } = *self;
+        match state {
+            RuleState::Start => {
+                let head = names.atom(word).ok_or(Wrong::NotAName)?;
+                Ok(RuleState::Headed(head))
             }
-            RuleState::Negated(rule) => match names.atom(word) {
-                Some(atom) => Ok(RuleState::Items(put(rule, Item::NotAtom(atom)))),
-                None => Err(Wrong::NotAName),
-            },
-            RuleState::Loaded(rule) => match below(word, loads) {
-                Some(number) => Ok(RuleState::Items(put(rule, Item::Aggregate(number)))),
-                None => Err(Wrong::BadNumber),
-            },
+            RuleState::Headed(head) if word.key() == Some(Key::If) => {
+                Ok(RuleState::Items(Rule::new(head)))
+            }
+            RuleState::Items(rule) if rule.items.has_room() => self.begin_item(rule, word),
+            RuleState::Headed(_) | RuleState::Items(_) => Err(Wrong::Misplaced),
+            RuleState::Negated(rule) => {
+                let atom = names.atom(word).ok_or(Wrong::NotAName)?;
+                Ok(RuleState::Items(with_item(rule, Item::NotAtom(atom))))
+            }
+            RuleState::Loaded(rule) => {
+                let number = natural(word).ok_or(Wrong::BadNumber)?;
+                if number >= loads {
+                    return Err(Wrong::BadNumber);
+                }
+                Ok(RuleState::Items(with_item(rule, Item::Aggregate(number))))
+            }
         }
     }
 
-    // The rule, if the line may end here.
-    pub fn done(self) -> Option<Rule>
-        ensures { result ≡ rule_done self }
-    {
-        match self {
-            RuleState::Headed(head) => Some(Rule::new(head)),
-            RuleState::Items(rule) => {
-                if rule.items.is_empty() {
-                    None
-                } else {
-                    Some(rule)
-                }
-            }
-            _ => None,
+    fn done(&self, state: RuleState) -> Result<Rule, Wrong> {
+        match state {
+            RuleState::Headed(head) => Ok(Rule::new(head)),
+            RuleState::Items(rule) if !rule.items.is_empty() => Ok(rule),
+            _ => Err(Wrong::Misplaced),
         }
     }
 }

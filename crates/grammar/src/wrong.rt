@@ -15,7 +15,7 @@ pub enum Wrong {
 }
 
 impl Wrong {
-    // The fault of this at a spot.
+    // The fault of this at a spot. A `From` would take the two as a pair, and is no plainer.
     pub fn at(self, spot: Spot) -> SheetFault
         ensures { result ≡ fault_at self spot }
     {

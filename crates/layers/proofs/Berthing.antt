@@ -1,10 +1,7 @@
 -- A lawful meaning moved up is lawful, and in the room that it needs nothing of it is lost.
-use Rattle.std.proofs.Common.{◌≡◌, ℕ, ◌+◌, ◌*◌, ◌/◌, ◌%◌, ◌^◌, ◌<◌, ◌≤◌, min, sym, refl, ap, ◌∙◌, subst, ap₂, mod-eq_of_lt, add_comm, arith}
-use lib.Bits.{bit_and, and_mask}
+use Rattle.std.proofs.Common.{◌≡◌, ℕ, ◌+◌, ◌*◌, ◌/◌, ◌%◌, ◌^◌, ◌<◌, ◌≤◌, sym, refl, ap, ◌∙◌, subst, ap₂, mod-eq_of_lt, add_comm}
 use Rattle.std.proofs.lemmas.Nat.{field_of, shl_below}
-use Rattle.atoms.specs.Sets.{Within, all_below, clipped}
-use Rattle.atoms.proofs.Digits.{mod_mod_wide}
-use Rattle.atoms.proofs.Inclusion.{within_mod}
+use Rattle.atoms.specs.Sets.{Within, clipped}
 use Rattle.atoms.proofs.Moving.{within_down}
 use Rattle.approx.specs.Meanings.{Meaning, meaning}
 use Rattle.approx.specs.declared.approximator.Approximator.{Ghosts}
@@ -12,24 +9,6 @@ use Rattle.approx.proofs.Laws.{Lawful}
 use Rattle.layers.specs.Shifts.{lowered, raised, berthed}
 use Rattle.layers.specs.Berths.{MovedUp, Granted}
 use Rattle.layers.specs.declared.slot.Slot.{Slot}
-
--- ---- as a slot moves sets
-pub slot_lowered : (p w s mask : ℕ) → w ≤ 64 → mask ≡ all_below (min w 64) → bit_and s mask / 2 ^ p ≡ lowered p w s
-slot_lowered p w s mask h e =
-    let m : min w 64 ≡ w = omega arith in
-    ap (λ (x : ℕ). x / 2 ^ p) (ap (bit_and s) (e ∙ ap all_below m) ∙ and_mask s w)
-
-pub slot_raised : (p w s mask : ℕ) → w ≤ 64 → mask ≡ all_below (min w 64) → bit_and (s * 2 ^ p % 2 ^ 64) mask ≡ raised p w s
-slot_raised p w s mask h e =
-    let m : min w 64 ≡ w = omega arith in
-    ap (bit_and (s * 2 ^ p % 2 ^ 64)) (e ∙ ap all_below m) ∙ and_mask (s * 2 ^ p % 2 ^ 64) w ∙ mod_mod_wide (s * 2 ^ p) w 64 h
-
--- a question that is not crossed is crossed below no width when it is moved down
-pub asked_proper : (p w v l u : ℕ) → Within (clipped w l) (clipped w u) → Within (clipped v (lowered p w l)) (clipped v (lowered p w u))
-asked_proper p w v l u q = within_mod v (within_down p q)
-
-pub pile_answers : (f : ℕ → ℕ → ℕ) {l u k v x : ℕ} → l ≡ k → u ≡ v → x ≡ f l u → x ≡ f k v
-pile_answers f p q e = e ∙ ap₂ f p q
 
 -- ---- with the room that it needs
 module _ (p v l u : ℕ) where

@@ -4,8 +4,8 @@ use Rattle.atoms.specs.Sets.{Within, clipped}
 use Rattle.approx.specs.Meanings.{Meaning, meaning}
 use Rattle.approx.specs.declared.approximator.Approximator.{Ghosts}
 use Rattle.faults.specs.declared.BenchFault.TheVariants.{BerthTooWide}
+use Rattle.faults.specs.declared.Refused.{Refused}
 use Rattle.layers.specs.declared.berth.Berth.{Berth}
-use Rattle.layers.specs.declared.berth.RefusedBerth.{RefusedBerth}
 use Rattle.layers.specs.Shifts.{berthed}
 
 -- a meaning n is m moved up by p: asked on bounds, it answers what m answers to the bounds moved down, with atom i as atom p + i
@@ -22,7 +22,7 @@ pub record Granted {X : Type 0} (G : Ghosts X) (pile : X) (first : ℕ) (b : Ber
   pub moved : MovedUp first (meaning G pile) (berthed b.slot.first b.slot.width (meaning G b.pile))
 
 -- a berth refused: its width would be more than 64, and the same pile comes back
-pub record Denied {X : Type 0} (G : Ghosts X) (pile : X) (first : ℕ) (r : RefusedBerth X) : Type 0 where
-  pub pile_back : r.pile ≡ pile
+pub record Denied {X : Type 0} (G : Ghosts X) (pile : X) (first : ℕ) (r : Refused X) : Type 0 where
+  pub pile_back : r.back ≡ pile
   pub wide : 64 < first + G.width pile
   pub fault : r.fault ≡ BerthTooWide (first + G.width pile)

@@ -21,9 +21,9 @@ module _ (p w : ℕ) where
   small : (s : ℕ) → raised p w s < 2 ^ w
   small s = mod-lt (s * 2 ^ p) (pow_pos w)
 
-  pub berthed_lawful : {m : Meaning} → (p < w) × (w ≤ 64) → Lawful m → Lawful (berthed p w m)
-  berthed_lawful {m} fits laws = record {
-    wide = (let h = fits.0 in omega arith, fits.1);
+  pub berthed_lawful : {m : Meaning} → p < w → w ≤ 64 → Lawful m → Lawful (berthed p w m)
+  berthed_lawful {m} room narrow laws = record {
+    wide = (omega arith, narrow);
     exact = λ z. ap (raised p w) (laws.exact (lowered p w z));
     precise = λ l k v u a b c.
         let x = laws.precise (lowered p w l) (lowered p w k) (lowered p w v) (lowered p w u) (lowered_up a) (lowered_up b) (lowered_up c) in

@@ -1,13 +1,11 @@
 -- What a set trips, and that a larger set trips more.
-use Rattle.std.proofs.Common.{◌≡◌, ℕ, ◌<◌, ◌≤◌, min, true, eqb, List, length, ap, ◌∙◌, ap₂, arith}
-use lib.Bits.{bit_and, and_mask}
-use Rattle.std.proofs.lemmas.List.{set_past}
+use Rattle.std.proofs.Common.{◌≡◌, ℕ, ◌<◌, true, eqb}
+use lib.Bits.{bit_and}
 use Rattle.std.proofs.lemmas.Bool.{not-true, not_from_false, eqb-false, ne_eqb}
-use Rattle.atoms.specs.Sets.{Has, Within, all_below}
+use Rattle.atoms.specs.Sets.{Has, Within}
 use Rattle.atoms.proofs.Collecting.{collected_in, collected_from}
 use Rattle.atoms.proofs.Lacking.{apart_from, common_atom}
-use Rattle.layers.specs.Triggers.{triggers_of, Trips, trips, tripped, with_triggers}
-use Rattle.layers.specs.CutOuts.{dropped}
+use Rattle.layers.specs.Triggers.{triggers_of, Trips, trips, tripped}
 use Rattle.layers.specs.declared.triggers.TriggerTable.{TriggerTable}
 
 -- ---- one atom
@@ -36,15 +34,3 @@ tripped_up t w {s} {z} p = record {
       let c = tripped_has t w s i h in
       tripped_all t w z i c.0 (record { trigger = c.1.trigger; its = c.1.its; here = p.at c.1.trigger c.1.here });
 }
-
--- as a cut-out asks its table
-pub dropped_is : (t : TriggerTable) (w by : ℕ) {width mask r : ℕ} → w ≤ 64 → width ≡ w → mask ≡ all_below (min width 64) → r ≡ tripped t (min width 64) (bit_and by mask) → r ≡ dropped t w by
-dropped_is t w by {width} h e f q =
-    let m : min width 64 ≡ w = omega arith in
-    q ∙ ap₂ (tripped t) m (ap (bit_and by) (f ∙ ap all_below m) ∙ and_mask by w)
-
--- ---- no atom past the 64 has triggers
-pub triggers_past : (t : TriggerTable) (i s : ℕ) → length t.triggers ≤ 64 → 64 ≤ i → with_triggers t i s ≡ t
-triggers_past t i s h k =
-    let past : length t.triggers ≤ i = omega arith in
-    ap (λ (xs : List ℕ). record { triggers = xs }) (set_past t.triggers i s past)

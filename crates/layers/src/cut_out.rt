@@ -2,7 +2,7 @@
 ghost use Rattle.std.specs.Prelude.{◌≡◌};
 ghost use Rattle.approx.specs.Meanings.{meaning};
 ghost use Rattle.layers.specs.CutOuts.{dropped, cut_out};
-ghost use Rattle.approx.proofs.Laws.{lawful};
+ghost use Rattle.approx.proofs.Laws.{lawful, asked};
 ghost use Rattle.layers.specs.Cutting.{cut_out_lawful};
 
 use super::triggers::TriggerTable;
@@ -19,7 +19,8 @@ pub struct CutOut<A> {
 impl<A: Approximator> CutOut<A> {
     // The pile under these triggers.
     pub fn new(pile: A, table: TriggerTable) -> CutOut<A>
-        ensures { (result.pile ≡ pile) × (result.table ≡ table) }
+        ensures same_pile { result.pile ≡ pile }
+        ensures same_table { result.table ≡ table }
     {
         CutOut { pile, table }
     }
@@ -40,15 +41,7 @@ impl<A: Approximator> Approximator for CutOut<A> {
 
     ghost may = { λ c. (cut_out c.table (meaning A.Approximator c.pile)).may };
 
-    ghost wide = { λ c. (cut_out_lawful c.table (lawful (record { width = A.width; sure = A.sure; may = A.may }) A.wide A.exact A.precise A.below A.ignores c.pile)).wide };
-
-    ghost exact = { λ c z h. (cut_out_lawful c.table (lawful (record { width = A.width; sure = A.sure; may = A.may }) A.wide A.exact A.precise A.below A.ignores c.pile)).exact z };
-
-    ghost precise = { λ c l k v u p q r h. (cut_out_lawful c.table (lawful (record { width = A.width; sure = A.sure; may = A.may }) A.wide A.exact A.precise A.below A.ignores c.pile)).precise l k v u p q r };
-
-    ghost below = { λ c l u p h. (cut_out_lawful c.table (lawful (record { width = A.width; sure = A.sure; may = A.may }) A.wide A.exact A.precise A.below A.ignores c.pile)).below l u p };
-
-    ghost ignores = { λ c l u p. (cut_out_lawful c.table (lawful (record { width = A.width; sure = A.sure; may = A.may }) A.wide A.exact A.precise A.below A.ignores c.pile)).ignores l u p };
+    ghost laws = { λ c. asked (cut_out_lawful c.table (lawful (A.laws c.pile))) };
 
     fn width(&self) -> u8 {
         self.pile.width()

@@ -8,7 +8,7 @@ mod joined;
 mod slot;
 mod triggers;
 
-pub use berth::{Berth, RefusedBerth};
+pub use berth::Berth;
 pub use cut_out::CutOut;
 pub use joined::Joined;
 pub use triggers::TriggerTable;

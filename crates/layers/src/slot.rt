@@ -10,14 +10,17 @@ use atoms::{Bounds, Interpretation, full};
 pub struct Slot {
     first: u8,
     width: u8,
-    ghost fits: { (first < width) × (width ≤ 64) },
+    ghost room: { first < width },
+    ghost narrow: { width ≤ 64 },
 }
 
 impl Slot {
     // The slot from this place up to this width.
     pub(super) fn new(first: u8, width: u8) -> Slot
-        requires { (first < width) × (width ≤ 64) }
-        ensures { (result.first ≡ first) × (result.width ≡ width) }
+        requires room { first < width }
+        requires narrow { width ≤ 64 }
+        ensures same_first { result.first ≡ first }
+        ensures same_width { result.width ≡ width }
     {
         Slot { first, width }
     }
@@ -30,6 +33,7 @@ impl Slot {
     }
 
     // The atoms of the slot, moved down to begin at 0.
+    #[tactic(auto, using(std::proofs::lemmas::Nat::and_mask))]
     fn lowered(self, set: Interpretation) -> Interpretation
         ensures { result ≡ lowered self.first self.width set }
     {
@@ -37,6 +41,7 @@ impl Slot {
     }
 
     // The question that is put to what lies in the slot. It is crossed below no width, unless the one that came was.
+    #[tactic(auto, using(atoms::proofs::Inclusion::within_mod, atoms::proofs::Moving::within_down))]
     pub(super) fn asked(self, bounds: Bounds) -> Bounds
         ensures lower { result.lower ≡ lowered self.first self.width bounds.lower }
         ensures upper { result.upper ≡ lowered self.first self.width bounds.upper }

@@ -1,9 +1,10 @@
-// The triggers of a cut-out: for each atom, the atoms that drop it.
-ghost use Rattle.std.specs.Prelude.{◌≡◌, ℕ, ◌^◌, ◌<◌, min, if◌then◌else◌};
+// The triggers of a cut-out: for each atom, the atoms that drop it. No table shared with the relay lines of a framework: there an
+// atom may have no row, and a row is held against a set the other way round.
+ghost use Rattle.std.specs.Prelude.{◌≡◌, ℕ, ◌<◌, min};
 ghost use Rattle.atoms.specs.Sets.{Has};
 ghost use Rattle.layers.specs.Triggers.{no_triggers, with_triggers, trips, Trips, tripped};
 
-use atoms::{Interpretation, only};
+use atoms::{Interpretation, those};
 
 #[derive(Clone, Copy)]
 pub struct TriggerTable {
@@ -19,9 +20,11 @@ impl TriggerTable {
     }
 
     // Gives the atom these triggers, in place of those that it had. There are 64 atoms: any other changes nothing.
+    #[tactic(auto, using(std::proofs::lemmas::List::set_past))]
     pub fn set_triggers(&mut self, atom: u8, triggers: Interpretation)
         ensures { self.new ≡ with_triggers self.old atom triggers }
     {
+        // By the index: after a `get_mut` the proof knows nothing of the other rows.
         if atom < 64 {
             self.triggers[atom as usize] = triggers;
         }
@@ -35,24 +38,12 @@ impl TriggerTable {
         self.triggers[atom as usize] & by != 0
     }
 
-    // The atom alone if it has a trigger in the set, and no atom otherwise.
-    fn share(&self, by: Interpretation, atom: u8) -> Interpretation
-        requires { atom < 64 }
-        ensures { result ≡ (if trips self.now by atom then 2 ^ atom else 0) }
-    {
-        if self.trips(by, atom) { only(atom) } else { 0 }
-    }
-
     // The atoms below the width that have a trigger in the set.
     pub fn tripped(&self, width: u8, by: Interpretation) -> Interpretation
         ensures is { result ≡ tripped self.now (min width 64) by }
         ensures has { (i : ℕ) → Has result i → (i < min width 64) × Trips self.now by i }
         ensures all { (i : ℕ) → i < min width 64 → Trips self.now by i → Has result i }
     {
-        let mut all: Interpretation = 0;
-        for atom in 0..width.min(64) {
-            all |= self.share(by, atom);
-        }
-        all
+        those(width, |atom| self.trips(by, atom))
     }
 }

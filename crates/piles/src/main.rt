@@ -3,6 +3,8 @@
 #![tactic(auto)]
 
 use aggregates::{Bound, Plain, Reading};
+use approx::Approximator;
+use atoms::Bounds;
 use engine::Board;
 use faults::BenchFault;
 use frameworks::{Framework, RelayTable};
@@ -11,12 +13,6 @@ use programs::RuleProgram;
 use sheet::read;
 use std::io;
 use tables::table::Table;
-
-fn print_fault(rt: &HostRuntime, fault: BenchFault) -> io::Result<()> {
-    let number = fault.number();
-    let column = fault.spot().column;
-    println!(rt; "refused {number} {column}")
-}
 
 fn left() -> Framework {
     let mut lines = RelayTable::new();
@@ -38,45 +34,50 @@ fn pile() -> CutOut<Joined<Framework, Framework>> {
     CutOut::new(Joined::new(left(), right()), triggers)
 }
 
-fn settled(rt: &HostRuntime, first: u16) -> io::Result<()> {
-    match Berth::new(pile(), first) {
-        Ok(berth) => match Board::new(berth).settle() {
-            Ok(done) => {
-                let bounds = done.bounds();
-                let lower = bounds.lower;
-                let upper = bounds.upper;
-                println!(rt; "first {first}: {lower} {upper}")
-            }
-            Err(refused) => print_fault(rt, refused.fault),
-        },
-        Err(refused) => print_fault(rt, refused.fault),
-    }
+// The settled bounds of what is berthed at a first place.
+fn berthed<A: Approximator + Drop>(pile: A, first: u16) -> Result<Bounds, BenchFault> {
+    let berth = Berth::new(pile, first)?;
+    Ok(Board::new(berth).settle()?.bounds())
 }
 
-// `p if load 0` with the load `sum >= 0 1 p`: whatever p is, the sum is not below 0.
-fn print_read_by<R: Reading + Drop>(rt: &HostRuntime, name: &str, reading: R) -> io::Result<()> {
+// The settled bounds of `p if load 0` with the load `sum >= 0 1 p`: whatever p is, the sum is not below 0.
+fn read_by<R: Reading + Drop>(reading: R) -> Result<Bounds, BenchFault> {
     let mut table = Table::fresh();
-    let text = b"marks 1\nloads 1\nrules 1\nrelays 0\np\nsum >= 0 1 p\np if load 0\n";
-    if read(&mut table, text).is_err() {
-        return println!(rt; "refused");
-    }
-    match Board::new(RuleProgram::of(&table, reading)).settle() {
-        Ok(done) => {
-            let bounds = done.bounds();
-            let lower = bounds.lower;
-            let upper = bounds.upper;
-            println!(rt; "{name}: {lower} {upper}")
+    read(
+        &mut table,
+        b"marks 1\nloads 1\nrules 1\nrelays 0\np\nsum >= 0 1 p\np if load 0\n",
+    )?;
+    Ok(
+        Board::new(RuleProgram::of(&table, reading))
+            .settle()?
+            .bounds(),
+    )
+}
+
+fn print_bounds(
+    rt: &impl Print,
+    title: &str,
+    bounds: Result<Bounds, BenchFault>,
+) -> io::Result<()> {
+    match bounds {
+        Ok(Bounds { lower, upper }) => println!(rt; "{title}: {lower} {upper}"),
+        Err(fault) => {
+            let number = fault.number();
+            let column = fault.spot().column;
+            println!(rt; "refused {number} {column}")
         }
-        Err(refused) => print_fault(rt, refused.fault),
     }
 }
 
 fn main(rt: HostRuntime) -> io::Result<()> {
-    print_read_by(&rt, "plain", Plain)?;
-    print_read_by(&rt, "bound", Bound)?;
-    settled(&rt, 0)?;
-    settled(&rt, 5)?;
-    settled(&rt, 60)?;
-    settled(&rt, 61)?;
-    settled(&rt, 65535)
+    print_bounds(&rt, "plain", read_by(Plain))?;
+    print_bounds(&rt, "bound", read_by(Bound))?;
+    for first in [0, 5, 60, 61, 65535] {
+        print_bounds(
+            &rt,
+            &format!(in rt.alloc(); "first {first}")?,
+            berthed(pile(), first),
+        )?;
+    }
+    Ok(())
 }

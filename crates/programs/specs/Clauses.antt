@@ -42,9 +42,11 @@ numbered (Aggregate n) = clipped 32 (2 ^ n)
 abbrev pub gathered : ℕ → List Item → Clause
 gathered head items = record { head = head; needed = union plain items; barred = union negated items; aggregates = union numbered items }
 
--- one item more in a clause
+-- a clause under one more condition
 abbrev pub with_item : Clause → Item → Clause
-with_item c x = record { head = c.head; needed = bit_or c.needed (plain x); barred = bit_or c.barred (negated x); aggregates = bit_or c.aggregates (numbered x) }
+with_item c (Atom a) = record { head = c.head; needed = bit_or c.needed (clipped 64 (2 ^ a)); barred = c.barred; aggregates = c.aggregates }
+with_item c (NotAtom a) = record { head = c.head; needed = c.needed; barred = bit_or c.barred (clipped 64 (2 ^ a)); aggregates = c.aggregates }
+with_item c (Aggregate n) = record { head = c.head; needed = c.needed; barred = c.barred; aggregates = bit_or c.aggregates (clipped 32 (2 ^ n)) }
 
 -- the items of a rule that are in use
 abbrev pub items_of : Rule → List Item

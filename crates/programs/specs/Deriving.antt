@@ -6,20 +6,20 @@ use Rattle.tables.specs.declared.table.Aggregate.{Aggregate}
 use Rattle.programs.specs.Clauses.{Among, union}
 use Rattle.programs.specs.Tables.{width_of, clauses_of, aggregates_of}
 use Rattle.programs.specs.declared.clause.Clause.{Clause}
+use Rattle.programs.specs.declared.clause.Grounds.{Grounds}
 use Rattle.programs.specs.declared.rules.RuleTable.{RuleTable}
 
 -- a rule fires where its needed atoms are all held, none of its barred atoms is possible, and its aggregates are all among those that hold
-abbrev pub fires : ℕ → ℕ → ℕ → Clause → Bool
-fires held possible holding c =
-    (bit_and c.needed held == c.needed) && (bit_and c.barred possible == 0 && bit_and c.aggregates holding == c.aggregates)
+abbrev pub fires : Grounds → Clause → Bool
+fires g c = (bit_and c.needed g.held == c.needed) && (bit_and c.barred g.possible == 0 && bit_and c.aggregates g.holding == c.aggregates)
 
 -- a rule gives its head where it fires
-abbrev pub gives : ℕ → ℕ → ℕ → Clause → ℕ
-gives held possible holding c = cond (fires held possible holding c) (clipped 64 (2 ^ c.head)) 0
+abbrev pub gives : Grounds → Clause → ℕ
+gives g c = cond (fires g c) (clipped 64 (2 ^ c.head)) 0
 
 -- the heads below the width of the rules that fire
-abbrev pub derived : RuleTable → ℕ → ℕ → ℕ → ℕ
-derived t held possible holding = clipped (width_of t) (union (gives held possible holding) (clauses_of t))
+abbrev pub derived : RuleTable → Grounds → ℕ
+derived t g = clipped (width_of t) (union (gives g) (clauses_of t))
 
 -- whether the aggregate with number n passes a judgement
 abbrev pub passes : (Aggregate → Bool) → List Aggregate → ℕ → Bool
@@ -28,6 +28,10 @@ passes judge xs n = judge (slice_index_or xs n zero_aggregate)
 -- the numbers of the aggregates that pass
 abbrev pub passing : (Aggregate → Bool) → List Aggregate → ℕ
 passing judge xs = collected (passes judge xs) (length xs)
+
+-- whatever is said of an aggregate is what the judgement says
+abbrev pub Answers : (Aggregate → Bool → Type 0) → (Aggregate → Bool) → Type 0
+Answers says judge = (a : Aggregate) (b : Bool) → says a b → b ≡ judge a
 
 -- every aggregate whose number is in the set is there, and passes
 abbrev pub AllPass : (Aggregate → Bool) → List Aggregate → ℕ → Type 0

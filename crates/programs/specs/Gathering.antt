@@ -1,13 +1,11 @@
 -- Sets gathered from a list: what a union has, that a clause says what its rule says, and the loops that gather.
-use Rattle.std.proofs.Common.{◌≡◌, ℕ, ◌+◌, ◌-◌, ◌^◌, ◌<◌, ◌≤◌, min, ◌⊎◌, List, [], ◌∷◌, map, length, get_or, take, fold, sym, refl, ap, ◌∙◌, subst, inl, inr, mod-lt, arith, pow_pos}
-use lib.Bits.{bit_or}
-use Rattle.std.proofs.lemmas.List.{take_all, length-take, length-map, map_more}
-use Rattle.std.proofs.lemmas.List.Sums.{fold_more}
-use Rattle.std.proofs.lemmas.Bool.{cases_lt}
+use Rattle.std.proofs.Common.{◌≡◌, ℕ, ◌+◌, ◌^◌, ◌<◌, ◌≤◌, ◌⊎◌, List, [], ◌∷◌, map, length, get_or, take, fold, sym, refl, ap, ◌∙◌, subst, inl, inr, mod-lt, arith, pow_pos}
+use lib.Bits.{bit_or, or_zero_r}
+use Rattle.std.proofs.lemmas.List.{length-take, length-map, map_more}
 use Rattle.atoms.specs.Sets.{Has, clipped}
 use Rattle.atoms.proofs.Digits.{digit_of_zero, lacks_not, has_or_l, has_or_r, has_or_cases, mod_digit, pow_has, pow_only}
 use Rattle.atoms.proofs.Lacking.{below_wide}
-use Rattle.tables.specs.Rows.{laid, in_use, pushed}
+use Rattle.tables.specs.Rows.{laid, pushed}
 use Rattle.tables.specs.declared.rows.Rows.{Rows}
 use Rattle.tables.specs.declared.table.Item.{Item}
 use Rattle.tables.specs.declared.table.Item.TheVariants.{Atom, NotAtom, Aggregate}
@@ -49,9 +47,6 @@ module _ {T : Type 0} (f : T → ℕ) where
 
   pub union_from : (xs : List T) (i : ℕ) → Has (union f xs) i → Source f xs i
   union_from xs i h = elim (onto_from 0 xs i h) [ inl p ↦ absurd (lacks_not 0 i (digit_of_zero i) p) | inr o ↦ o ]
-
-  pub union_more : (xs : List T) (i : ℕ) (d : T) → i < length xs → union f (take (i + 1) xs) ≡ bit_or (union f (take i xs)) (f (get_or xs i d))
-  union_more xs i d h = fold_more (λ s x. bit_or s (f x)) 0 xs i d h
 
 -- ---- an atom alone, below a width
 pub alone_in : (w i : ℕ) → i < w → Has (clipped w (2 ^ i)) i
@@ -97,14 +92,15 @@ clause_says r = record {
   aggregates = just numbered Aggregate 32 numbered_from (alone_in 32) (items_of r);
 }
 
--- ---- the loop over the items
-pub gathered_more : (head : ℕ) (xs : List Item) (i : ℕ) (d : Item) {b c : Clause} → i < length xs → b ≡ gathered head (take i xs) → c ≡ with_item b (get_or xs i d) → c ≡ gathered head (take (i + 1) xs)
-gathered_more head xs i d h e q =
-    q ∙ ap (λ (b : Clause). with_item b (get_or xs i d)) e
-    ∙ (λ k. record { head = head; needed = sym (union_more plain xs i d h) k; barred = sym (union_more negated xs i d h) k; aggregates = sym (union_more numbered xs i d h) k })
+-- a clause that takes up items one after another gathers what they give
+gathered_onto : (c : Clause) (xs : List Item) → fold with_item c xs ≡ record { head = c.head; needed = onto plain c.needed xs; barred = onto negated c.barred xs; aggregates = onto numbered c.aggregates xs }
+gathered_onto c [] = refl
+gathered_onto c (Atom a ∷ xs) = simp or_zero_r (gathered_onto (with_item c (Atom a)) xs)
+gathered_onto c (NotAtom a ∷ xs) = simp or_zero_r (gathered_onto (with_item c (NotAtom a)) xs)
+gathered_onto c (Aggregate n ∷ xs) = simp or_zero_r (gathered_onto (with_item c (Aggregate n)) xs)
 
-pub gathered_all : (r : Rule) (xs : List Item) (i : ℕ) {c : Clause} → length xs ≤ i → xs ≡ items_of r → c ≡ gathered r.head (take i xs) → c ≡ clause_of r
-gathered_all r xs i h is e = e ∙ ap (gathered r.head) (take_all i xs h ∙ is)
+pub gathered_is : (head : ℕ) (xs : List Item) → fold with_item (gathered head []) xs ≡ gathered head xs
+gathered_is head xs = gathered_onto (gathered head []) xs
 
 -- ---- the loop over the rules
 pub clauses_more : (xs : List Rule) (i : ℕ) (d : Rule) {x : Clause} {b c : Rows Clause 128} → i < length xs → length xs ≤ 128 → b ≡ clauses_from (take i xs) → x ≡ clause_of (get_or xs i d) → c ≡ pushed 128 b x → c ≡ clauses_from (take (i + 1) xs)
@@ -113,14 +109,3 @@ clauses_more xs i d {x} {b} h few e ex q =
     q ∙ ap (λ (r : Rows Clause 128). pushed 128 r x) e ∙ ap (pushed 128 (clauses_from (take i xs))) ex
     ∙ pushed_laid 128 zero_clause (map clause_of (take i xs)) (clause_of (get_or xs i d)) (omega arith) short
     ∙ ap (laid 128 zero_clause) (sym (map_more clause_of xs i d h))
-
--- as many are in use as there are rows, at most
-pub few_rows : {T : Type 0} {N : ℕ} (rows : Rows T N) {xs : List T} → length rows.items ≤ N → xs ≡ in_use N rows → length xs ≤ N
-few_rows rows h e = omega (arith, ap length e, length-take rows.count rows.items)
-
--- ---- rows cut at a length that they do not pass
-pub cut_rows : {T : Type 0} (xs : List T) (n : ℕ) {k : ℕ} → k ≡ min (length xs) n → take (k - 0) xs ≡ take n xs
-cut_rows xs n {k} e = elim (cases_lt n (length xs)) [
-  | inl h ↦ ap (λ (m : ℕ). take m xs) (omega arith)
-  | inr h ↦ take_all (k - 0) xs (omega arith) ∙ sym (take_all n xs h)
-]

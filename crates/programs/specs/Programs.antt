@@ -9,25 +9,18 @@ use Rattle.programs.specs.Tables.{width_of, aggregates_of}
 use Rattle.programs.specs.declared.rules.RuleTable.{RuleTable}
 use Rattle.aggregates.specs.declared.reading.Reading.{Ghosts}
 use Rattle.programs.specs.declared.program.RuleProgram.{RuleProgram}
-use Rattle.programs.specs.declared.program.Judgement.{Judgement}
-use Rattle.programs.specs.declared.program.Judgement.TheVariants.{Surely, Perhaps}
 
 -- what a reading says of an aggregate on a lower and an upper
 abbrev pub Verdict : Type 0
 Verdict = Aggregate → ℕ → ℕ → Bool
 
--- surely an aggregate holds where the reading is sure of it, and perhaps where it says that it may
-abbrev pub judged : {X : Type 0} → Ghosts X → X → Judgement → Verdict
-judged G r Surely = G.sure r
-judged G r Perhaps = G.may r
-
 -- between a lower and an upper, surely on are the heads of the rules whose needed atoms are in the lower, whose barred atoms are outside the upper, and whose aggregates are all sure
 abbrev pub surely : Verdict → RuleTable → ℕ → ℕ → ℕ
-surely sure t l u = derived t l u (passing (λ a. sure a l u) (aggregates_of t))
+surely sure t l u = derived t (record { held = l; possible = u; holding = passing (λ a. sure a l u) (aggregates_of t) })
 
 -- perhaps on are the heads of the rules whose needed atoms are in the upper, whose barred atoms are outside the lower, and whose aggregates all may hold
 abbrev pub perhaps : Verdict → RuleTable → ℕ → ℕ → ℕ
-perhaps may t l u = derived t u l (passing (λ a. may a l u) (aggregates_of t))
+perhaps may t l u = derived t (record { held = u; possible = l; holding = passing (λ a. may a l u) (aggregates_of t) })
 
 -- the bounds without the atoms at or above the width
 abbrev pub below_width : RuleTable → Bounds → Bounds

@@ -1,5 +1,5 @@
 -- The reduct of rules by an interpretation z.
-use Rattle.std.specs.Prelude.{ℕ, Bool, cond, List, [], ◌∷◌, ◌==◌, bit_and}
+use Rattle.std.specs.Prelude.{ℕ, Bool, List, map, filter, ◌==◌, bit_and}
 use Rattle.tables.specs.Rows.{laid}
 use Rattle.tables.specs.declared.rows.Rows.{Rows}
 use Rattle.programs.specs.Tables.{zero_clause, clauses_of}
@@ -16,8 +16,7 @@ spares z c = bit_and c.barred z == 0
 
 -- the reduct by z: the rules that bar an atom of z are dropped, and the barred atoms of the others
 abbrev pub reduct : ℕ → List Clause → List Clause
-reduct z [] = []
-reduct z (c ∷ cs) = cond (spares z c) (unbarred c ∷ reduct z cs) (reduct z cs)
+reduct z cs = map unbarred (filter (spares z) cs)
 
 -- the reduct of some clauses, as rows
 abbrev pub reduct_rows : ℕ → List Clause → Rows Clause 128

@@ -1,7 +1,7 @@
 // A rule as sets: what its items ask for, whatever their order and however often they stand there.
 ghost use Rattle.std.specs.Prelude.{◌≡◌, ◌^◌, []};
 ghost use Rattle.atoms.specs.Sets.{clipped};
-ghost use Rattle.programs.specs.Clauses.{plain, negated, numbered, gathered, with_item, clause_of, Says};
+ghost use Rattle.programs.specs.Clauses.{gathered, with_item, clause_of, Says};
 ghost use Rattle.programs.specs.Deriving.{fires, gives};
 ghost use Rattle.programs.specs.Reducts.{spares, unbarred};
 
@@ -17,41 +17,21 @@ pub struct Clause {
     aggregates: u32,
 }
 
+// What clauses are held against: the atoms that are held, those that are possible, and the numbers of the aggregates that
+// hold.
+#[derive(Clone, Copy)]
+pub struct Grounds {
+    pub(super) held: Interpretation,
+    pub(super) possible: Interpretation,
+    pub(super) holding: u32,
+}
+
 // The set of the one number; there are 32 aggregates, so any other gives the empty set.
-pub(super) fn number_alone(number: usize) -> u32
+// One function for this and `only` would need a trait over the integers, and be no plainer.
+fn number_alone(number: u8) -> u32
     ensures { result ≡ clipped 32 (2 ^ number) }
 {
     if number < 32 { 1 << number } else { 0 }
-}
-
-// The atom of a plain item.
-fn plain(item: Item) -> Interpretation
-    ensures { result ≡ plain item }
-{
-    match item {
-        Item::Atom(atom) => only(atom),
-        Item::NotAtom(_) | Item::Aggregate(_) => 0,
-    }
-}
-
-// The atom of a negated item.
-fn negated(item: Item) -> Interpretation
-    ensures { result ≡ negated item }
-{
-    match item {
-        Item::NotAtom(atom) => only(atom),
-        Item::Atom(_) | Item::Aggregate(_) => 0,
-    }
-}
-
-// The number of an aggregate's item.
-fn numbered(item: Item) -> u32
-    ensures { result ≡ numbered item }
-{
-    match item {
-        Item::Aggregate(number) => number_alone(number as usize),
-        Item::Atom(_) | Item::NotAtom(_) => 0,
-    }
 }
 
 impl Clause {
@@ -71,29 +51,36 @@ impl Clause {
     fn with(self, item: Item) -> Clause
         ensures { result ≡ with_item self item }
     {
-        Clause {
-            head: self.head,
-            needed: self.needed | plain(item),
-            barred: self.barred | negated(item),
-            aggregates: self.aggregates | numbered(item),
+        match item {
+            Item::Atom(atom) => Clause {
+                needed: self.needed | only(atom),
+                ..self
+            },
+            Item::NotAtom(atom) => Clause {
+                barred: self.barred | only(atom),
+                ..self
+            },
+            Item::Aggregate(number) => Clause {
+                aggregates: self.aggregates | number_alone(number),
+                ..self
+            },
         }
     }
 
-    // The rule's items as sets.
+    // The rule's items as sets. No `From`: their order and their number are left out.
     pub fn of(rule: &Rule) -> Clause
         ensures is { result ≡ clause_of rule.now }
         ensures says { Says rule.now result }
     {
-        let mut clause = Clause::fact(rule.head);
-        for item in rule.items.as_slice() {
-            clause = clause.with(*item);
-        }
-        clause
+        rule.items
+            .as_slice()
+            .iter()
+            .fold(Clause::fact(rule.head), |clause, item| clause.with(*item))
     }
 
     // Whether it bars no atom of the set.
-    pub(super) fn spares(self, set: Interpretation) -> bool
-        ensures { result ≡ spares set self }
+    pub(super) fn spares(&self, set: Interpretation) -> bool
+        ensures { result ≡ spares set self.now }
     {
         self.barred & set == 0
     }
@@ -102,34 +89,24 @@ impl Clause {
     pub(super) fn unbarred(self) -> Clause
         ensures { result ≡ unbarred self }
     {
-        Clause {
-            head: self.head,
-            needed: self.needed,
-            barred: 0,
-            aggregates: self.aggregates,
-        }
+        Clause { barred: 0, ..self }
     }
 
     // Whether its needed atoms are all held, none of its barred atoms is possible, and its aggregates are all among those
     // that hold.
-    fn fires(&self, held: Interpretation, possible: Interpretation, holding: u32) -> bool
-        ensures { result ≡ fires held possible holding self.now }
+    fn fires(&self, grounds: Grounds) -> bool
+        ensures { result ≡ fires grounds self.now }
     {
-        self.needed & held == self.needed
-            && self.barred & possible == 0
-            && self.aggregates & holding == self.aggregates
+        self.needed & grounds.held == self.needed
+            && self.barred & grounds.possible == 0
+            && self.aggregates & grounds.holding == self.aggregates
     }
 
     // Its head if it fires, and no atom otherwise.
-    pub(super) fn share(
-        &self,
-        held: Interpretation,
-        possible: Interpretation,
-        holding: u32,
-    ) -> Interpretation
-        ensures { result ≡ gives held possible holding self.now }
+    pub(super) fn share(&self, grounds: Grounds) -> Interpretation
+        ensures { result ≡ gives grounds self.now }
     {
-        if self.fires(held, possible, holding) {
+        if self.fires(grounds) {
             only(self.head)
         } else {
             0

@@ -1,14 +1,18 @@
 // The rules of a sheet as sets, with its aggregates.
-ghost use Rattle.std.specs.Prelude.{◌≡◌, ◌≤◌, length, if◌then◌else◌};
-ghost use Rattle.tables.specs.Rows.{in_use, pushed};
+ghost use Rattle.std.specs.Prelude.{◌≡◌, ℕ, ◌^◌, ◌<◌, ◌≤◌, Bool, length, slice_index_or};
+ghost use Rattle.std.specs.Fn.{FnReturnsAt};
+ghost use Rattle.atoms.specs.Sets.{has, clipped};
+ghost use Rattle.tables.specs.Rows.{in_use};
+ghost use Rattle.tables.specs.Tables.{zero_aggregate};
+ghost use Rattle.tables.specs.declared.table.Aggregate.{Aggregate};
 ghost use Rattle.programs.specs.Clauses.{AllSay};
-ghost use Rattle.programs.specs.Deriving.{derived};
+ghost use Rattle.programs.specs.Deriving.{derived, passing, Answers};
 ghost use Rattle.programs.specs.Normal.{NormalSheet, NormalRules};
 ghost use Rattle.programs.specs.Programs.{below_width};
-ghost use Rattle.programs.specs.Reducts.{spares, unbarred, reduct_rows, reduced};
+ghost use Rattle.programs.specs.Reducts.{reduct_rows, reduced};
 ghost use Rattle.programs.specs.Tables.{clauses_from, rule_table, rules_of, clauses_of, aggregates_of, width_of};
 
-use super::clause::Clause;
+use super::clause::{Clause, Grounds};
 use atoms::{Bounds, Interpretation, full};
 use tables::rows::Rows;
 use tables::table::{Aggregate, Rule, Table};
@@ -21,9 +25,9 @@ pub struct RuleTable {
     aggregates: Rows<Aggregate, 32>,
 }
 
-// The rules as sets, in their order. They are few, as is known of rules by value, and not of a reference to them.
-fn clauses_from(rules: Rows<Rule, 128>) -> Rows<Clause, 128>
-    ensures { result ≡ clauses_from (in_use 128 rules) }
+// The rules as sets, in their order. There is room for each.
+fn clauses_from(rules: &Rows<Rule, 128>) -> Rows<Clause, 128>
+    ensures { result ≡ clauses_from (in_use 128 rules.now) }
 {
     let mut clauses = Rows::new(Clause::fact(0));
     for rule in rules.as_slice() {
@@ -32,28 +36,38 @@ fn clauses_from(rules: Rows<Rule, 128>) -> Rows<Clause, 128>
     clauses
 }
 
-// Puts the rule without its barred atoms behind the others, unless it bars an atom of z.
-fn keep(rows: &mut Rows<Clause, 128>, clause: Clause, z: Interpretation)
-    ensures { rows.new ≡ (if spares z clause then pushed 128 rows.old (unbarred clause) else rows.old) }
-{
-    if clause.spares(z) {
-        let _ = rows.push(clause.unbarred());
-    }
-}
-
-// The rules that bar no atom of z, without their barred atoms.
-fn reduct_rows(clauses: Rows<Clause, 128>, z: Interpretation) -> Rows<Clause, 128>
-    ensures { result ≡ reduct_rows z (in_use 128 clauses) }
+// The rules that bar no atom of z, without their barred atoms. There is room for each.
+fn reduct_rows(clauses: &Rows<Clause, 128>, z: Interpretation) -> Rows<Clause, 128>
+    ensures { result ≡ reduct_rows z (in_use 128 clauses.now) }
 {
     let mut reduct = Rows::new(Clause::fact(0));
     for clause in clauses.as_slice() {
-        keep(&mut reduct, *clause, z);
+        if clause.spares(z) {
+            let _ = reduct.push(clause.unbarred());
+        }
     }
     reduct
 }
 
+// The numbers of the aggregates that pass: each is judged once for a question.
+fn passing<F: Fn(&Aggregate) -> bool>(aggregates: &[Aggregate], passes: F) -> u32
+    requires few { length aggregates.now ≤ 32 }
+    requires callable { F.IsAlwaysCallable passes }
+    ensures below { result < 2 ^ length aggregates.now }
+    ensures has { (n : ℕ) → n < length aggregates.now → FnReturnsAt F.Fn passes (slice_index_or aggregates.now n zero_aggregate) (has result n) }
+{
+    let mut numbers = 0;
+    for (number, aggregate) in aggregates.iter().enumerate() {
+        if passes(aggregate) {
+            numbers |= 1 << number;
+        }
+    }
+    numbers
+}
+
 impl RuleTable {
-    // The rules and the aggregates of the record. Its width is taken as 1 if it is less, and as 64 if it is more.
+    // The rules and the aggregates of the record. Its width is taken as 1 if it is less, and as 64 if it is more. No `From`: the
+    // rest of the record is left out.
     pub fn of(table: &Table) -> RuleTable
         ensures is { result ≡ rule_table table.now }
         ensures says { AllSay (rules_of table.now) (clauses_of result) }
@@ -61,7 +75,7 @@ impl RuleTable {
     {
         RuleTable {
             width: table.width,
-            clauses: clauses_from(table.rules),
+            clauses: clauses_from(&table.rules),
             aggregates: table.aggregates,
         }
     }
@@ -70,43 +84,55 @@ impl RuleTable {
     pub fn atom_count(&self) -> u8
         ensures { result ≡ width_of self.now }
     {
-        self.width.min(64).max(1)
+        self.width.clamp(1, 64)
+    }
+
+    // The atoms of the set below the width. One operator, as in every crate that does the same: no function for all is plainer.
+    #[tactic(auto, using(std::proofs::lemmas::Nat::and_mask))]
+    fn clipped(&self, set: Interpretation) -> Interpretation
+        ensures { result ≡ clipped (width_of self.now) set }
+    {
+        set & full(self.atom_count())
     }
 
     // The bounds without the atoms at or above the width.
     pub(super) fn below(&self, bounds: Bounds) -> Bounds
         ensures { result ≡ below_width self.now bounds }
     {
-        let atoms = full(self.atom_count());
         Bounds {
-            lower: bounds.lower & atoms,
-            upper: bounds.upper & atoms,
+            lower: self.clipped(bounds.lower),
+            upper: self.clipped(bounds.upper),
         }
-    }
-
-    // The aggregates in use: at most 32, which a reference to the rows does not tell.
-    pub(super) fn aggregates(&self) -> &[Aggregate]
-        ensures all { result.now ≡ aggregates_of self.now }
-        ensures few { length result.now ≤ 32 }
-    {
-        let all = self.aggregates.as_slice();
-        &all[0..all.len().min(32)]
     }
 
     // The heads below the width of the rules that fire.
-    pub(super) fn derived(
+    fn derived(&self, grounds: Grounds) -> Interpretation
+        ensures { result ≡ derived self.now grounds }
+    {
+        let heads = self
+            .clauses
+            .as_slice()
+            .iter()
+            .fold(0, |heads, clause| heads | clause.share(grounds));
+        self.clipped(heads)
+    }
+
+    // The heads below the width of the rules that fire on these atoms and the aggregates that pass.
+    pub(super) fn heads<F: Fn(&Aggregate) -> bool>(
         &self,
         held: Interpretation,
         possible: Interpretation,
-        holding: u32,
+        passes: F,
     ) -> Interpretation
-        ensures { result ≡ derived self.now held possible holding }
+        requires { F.IsAlwaysCallable passes }
+        ensures { (judge : Aggregate → Bool) → Answers (FnReturnsAt F.Fn passes) judge → result ≡ derived self.now (record { held = held; possible = possible; holding = passing judge (aggregates_of self.now) }) }
     {
-        let mut heads: Interpretation = 0;
-        for clause in self.clauses.as_slice() {
-            heads |= clause.share(held, possible, holding);
-        }
-        heads & full(self.atom_count())
+        let holding = passing(self.aggregates.as_slice(), passes);
+        self.derived(Grounds {
+            held,
+            possible,
+            holding,
+        })
     }
 
     // The table with the reduct of its rules by z.
@@ -114,9 +140,8 @@ impl RuleTable {
         ensures { result ≡ reduced z self.now }
     {
         RuleTable {
-            width: self.width,
-            clauses: reduct_rows(self.clauses, z),
-            aggregates: self.aggregates,
+            clauses: reduct_rows(&self.clauses, z),
+            ..*self
         }
     }
 }

@@ -1,24 +1,18 @@
 -- The checks of a text one by one: what each test says of a position, of the length and of the end.
-use Rattle.std.proofs.Common.{◌≡◌, ℕ, zero, suc, ◌+◌, ◌-◌, ◌<◌, Bool, false, not, ◌&&◌, ◌||◌, eqb, ltb, ◌⊎◌, List, ◌∷◌, length, get_or, Decides, sym, refl, ap, ◌∙◌, inl, inr, ⊎_elim, add-one, arith}
+use Rattle.std.proofs.Common.{◌≡◌, ℕ, zero, suc, ◌+◌, ◌-◌, ◌<◌, false, not, ◌||◌, eqb, ltb, ◌⊎◌, List, ◌∷◌, length, get_or, Decides, sym, refl, ap, ◌∙◌, inl, inr, ⊎_elim, add-one, arith}
 use Rattle.std.proofs.lemmas.List.{get_or_default}
 use Rattle.std.proofs.lemmas.Bool.{ltb-true, ltb-false, lt-ltb, le-ltb, eqb-true, eqb-false, eq-eqb, ne_eqb, or_parts, or_from, not-false, not_from_true, cases_lt}
 use Rattle.std.proofs.lemmas.Bool.Decides.{Decides-like, Decides-not, Decides-and, Decides-or, Decides-eqb, Decides-ltb}
+use Rattle.text.specs.Text.{bad_byte, bad_spacing}
 use Rattle.refusals.specs.Texts.{Holds, Follows, LineBegins, BadByteAt, BadSpacingAt, empty_line, space_first, space_doubled, space_last, Short, Ended, Unended}
 use Rattle.refusals.proofs.Telling.{Parts}
 use Rattle.refusals.proofs.Scanning.{tested}
 
--- the tests of the two laws
-abbrev pub byte_test : ℕ → ℕ → ℕ → Bool
-byte_test before byte after = not (eqb byte 10) && (ltb byte 32 || ltb 126 byte)
-
-abbrev pub space_test : ℕ → ℕ → ℕ → Bool
-space_test before byte after = (eqb byte 10 && eqb before 10) || (eqb byte 32 && (eqb before 10 || (eqb before 32 || eqb after 10)))
-
 -- the law of bytes
 module _ (text : List ℕ) (k : ℕ) (inside : k < length text) where
-  pub byte_decides : Decides (tested byte_test 10 text k) (BadByteAt text k)
+  pub byte_decides : Decides (tested bad_byte 10 text k) (BadByteAt text k)
   byte_decides =
-      Decides-like (tested byte_test 10 text k)
+      Decides-like (tested bad_byte 10 text k)
       (λ p. record { inside = inside; no_newline = p.0; no_sign = p.1 }) (λ b. (b.no_newline, b.no_sign))
       (Decides-and _ _ (Decides-not _ (Decides-eqb (get_or text k 0) 10)) (Decides-or _ _ (Decides-ltb (get_or text k 0) 32) (Decides-ltb 126 (get_or text k 0))))
 
@@ -57,11 +51,11 @@ module _ (text : List ℕ) (ended : Ended text) (k : ℕ) (inside : k < length t
       ((get_or text k 0 ≡ 10) × (get_or (10 ∷ text) k 0 ≡ 10))
       ⊎ ((get_or text k 0 ≡ 32) × ((get_or (10 ∷ text) k 0 ≡ 10) ⊎ ((get_or (10 ∷ text) k 0 ≡ 32) ⊎ (get_or text (suc k) 10 ≡ 10))))
 
-  bad_space : SpaceParts → BadSpacingAt text k
-  bad_space (inl (e, b)) = empty_line (inside, e) (begins b)
-  bad_space (inr (e, inl b)) = space_first (inside, e) (begins b)
-  bad_space (inr (e, inr (inl b))) = space_doubled (inside, e) (follows b)
-  bad_space (inr (e, inr (inr a))) = space_last (inside, e) (newline_next e a)
+  spaced_badly : SpaceParts → BadSpacingAt text k
+  spaced_badly (inl (e, b)) = empty_line (inside, e) (begins b)
+  spaced_badly (inr (e, inl b)) = space_first (inside, e) (begins b)
+  spaced_badly (inr (e, inr (inl b))) = space_doubled (inside, e) (follows b)
+  spaced_badly (inr (e, inr (inr a))) = space_last (inside, e) (newline_next e a)
 
   space_parts : BadSpacingAt text k → SpaceParts
   space_parts (empty_line (l, e) b) = inl (e, begun b)
@@ -69,9 +63,9 @@ module _ (text : List ℕ) (ended : Ended text) (k : ℕ) (inside : k < length t
   space_parts (space_doubled (l, e) f) = inr (e, inr (inl (is_before text k 32 f)))
   space_parts (space_last (l, e) h) = inr (e, inr (inr (next_newline h)))
 
-  pub space_decides : Decides (tested space_test 10 text k) (BadSpacingAt text k)
+  pub space_decides : Decides (tested bad_spacing 10 text k) (BadSpacingAt text k)
   space_decides =
-      Decides-like (tested space_test 10 text k) bad_space space_parts
+      Decides-like (tested bad_spacing 10 text k) spaced_badly space_parts
       (Decides-or _ _ (Decides-and _ _ (Decides-eqb (get_or text k 0) 10) (Decides-eqb (get_or (10 ∷ text) k 0) 10))
       (Decides-and _ _ (Decides-eqb (get_or text k 0) 32)
       (Decides-or _ _ (Decides-eqb (get_or (10 ∷ text) k 0) 10) (Decides-or _ _ (Decides-eqb (get_or (10 ∷ text) k 0) 32) (Decides-eqb (get_or text (suc k) 10) 10)))))

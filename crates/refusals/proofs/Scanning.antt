@@ -1,15 +1,15 @@
 -- The first byte of a text that breaks a law: the scan for it finds just that.
-use Rattle.std.proofs.Common.{◌≡◌, ℕ, zero, suc, ◌<◌, Bool, true, false, cond, List, [], ◌∷◌, length, get_or, take, Some, None, Decides, Option, sym, ap, ◌∙◌, ⊎_elim, arith}
+use Rattle.std.proofs.Common.{◌≡◌, ℕ, zero, suc, ◌<◌, Bool, true, false, List, [], ◌∷◌, length, get_or, take, Some, None, Decides, Option, sym, refl, ap, ◌∙◌, ⊎_elim, arith}
 use Rattle.std.proofs.lemmas.Bool.{cond-true, cond-false, cases_Bool}
 use Rattle.std.proofs.lemmas.Bool.Decides.{not_from_Decides}
 use Rattle.faults.specs.declared.Spot.{Spot}
-use Rattle.text.specs.Text.{start, past}
+use Rattle.text.specs.Text.{start, past, first_broken}
 use Rattle.refusals.specs.Texts.{First, Nowhere, spot_of}
 use Rattle.refusals.proofs.Spotting.{walked, walked_is}
 
 -- nothing is not something
 pub not_some : {X : Type 0} {x : X} → None ≡ Some x → ⊥
-not_some e = let z : ◌≡◌ {A = ℕ} 0 1 = cc in omega arith
+not_some e = cc
 
 -- a search that finds what P says, and misses where Q holds
 pub record Finds {X : Type 0} (o : Option X) (P : X → Type 0) (Q : Type 0) : Type 0 where
@@ -22,10 +22,10 @@ pub record Finds {X : Type 0} (o : Option X) (P : X → Type 0) (Q : Type 0) : T
 abbrev pub tested : (ℕ → ℕ → ℕ → Bool) → ℕ → List ℕ → ℕ → Bool
 tested test before bytes k = test (get_or (before ∷ bytes) k 0) (get_or bytes k 0) (get_or bytes (suc k) 10)
 
--- `scan` is any scan for the first byte that a test finds
-module _ (test : ℕ → ℕ → ℕ → Bool) (scan : Spot → ℕ → List ℕ → Option Spot)
-    (ends : (spot : Spot) (before : ℕ) → scan spot before [] ≡ None)
-    (goes_on : (spot : Spot) (before b : ℕ) (bytes : List ℕ) → scan spot before (b ∷ bytes) ≡ cond (test before b (get_or bytes 0 10)) (Some spot) (scan (past spot b) b bytes)) where
+module _ (test : ℕ → ℕ → ℕ → Bool) where
+  abbrev scan : Spot → ℕ → List ℕ → Option Spot
+  scan spot before bytes = first_broken test spot before bytes
+
   -- a position is the first that the test finds, and a walk to it comes to a spot
   record Found (spot : Spot) (before : ℕ) (bytes : List ℕ) (here : Spot) : Type 0 where
     place : ℕ
@@ -50,13 +50,13 @@ module _ (test : ℕ → ℕ → ℕ → Bool) (scan : Spot → ℕ → List ℕ
 
   -- the scan, once the test of its first byte is known
   stops : (spot : Spot) (before b : ℕ) (bytes : List ℕ) → test before b (get_or bytes 0 10) ≡ true → scan spot before (b ∷ bytes) ≡ Some spot
-  stops spot before b bytes t = goes_on spot before b bytes ∙ cond-true _ _ _ t
+  stops spot before b bytes t = cond-true _ _ _ t
 
   steps : (spot : Spot) (before b : ℕ) (bytes : List ℕ) → test before b (get_or bytes 0 10) ≡ false → scan spot before (b ∷ bytes) ≡ scan (past spot b) b bytes
-  steps spot before b bytes t = goes_on spot before b bytes ∙ cond-false _ _ _ t
+  steps spot before b bytes t = cond-false _ _ _ t
 
   found_from_scan : (spot : Spot) (before : ℕ) (bytes : List ℕ) (here : Spot) → scan spot before bytes ≡ Some here → Found spot before bytes here
-  found_from_scan spot before [] here e = absurd (not_some (sym (ends spot before) ∙ e))
+  found_from_scan spot before [] here e = absurd (not_some e)
   found_from_scan spot before (b ∷ bytes) here e =
       ⊎_elim
       (λ t. let s = stops spot before b bytes t in record { place = 0; inside = omega arith; breaks = t; earlier = λ j h. absurd (omega arith); spotted = cc })
@@ -79,7 +79,7 @@ module _ (test : ℕ → ℕ → ℕ → Bool) (scan : Spot → ℕ → List ℕ
       steps spot before b bytes (early 0 (omega arith)) ∙ scan_from_found (past spot b) b bytes k (omega arith) t (λ j l. early (suc j) (omega arith))
 
   scan_from_none : (spot : Spot) (before : ℕ) (bytes : List ℕ) → ((k : ℕ) → k < length bytes → tested test before bytes k ≡ false) → scan spot before bytes ≡ None
-  scan_from_none spot before [] sound = ends spot before
+  scan_from_none spot before [] sound = refl
   scan_from_none spot before (b ∷ bytes) sound =
       steps spot before b bytes (sound 0 (omega arith)) ∙ scan_from_none (past spot b) b bytes (λ k h. sound (suc k) (omega arith))
 

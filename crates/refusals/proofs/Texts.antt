@@ -1,14 +1,14 @@
 -- The text layer: the verdict on a text tells whether it is lawful, and what is wrong with it first.
-use Rattle.std.proofs.Common.{◌≡◌, ℕ, ◌-◌, ◌<◌, cond, not, ◌||◌, eqb, ltb, ◌⊎◌, List, length, get_or, Some, None, Ok, Err, Option, Result, sym, refl, ap, ◌∙◌, inl, inr, ⊎_elim}
-use Rattle.std.proofs.lemmas.Bool.Decides.{Decides-at}
+use Rattle.std.proofs.Common.{◌≡◌, ℕ, ◌<◌, ◌⊎◌, List, length, Some, None, Option, Result, sym, refl, ap, ◌∙◌, inl, inr, ⊎_elim}
 use Rattle.faults.specs.declared.Spot.{Spot}
 use Rattle.faults.specs.declared.TextFault.{TextFault}
 use Rattle.faults.specs.declared.TextFault.TheVariants.{TooLong, NoEnd, BadByte, Spacing}
-use Rattle.text.specs.Text.{start, broken, first_broken, fault_or, text_verdict}
+use Rattle.text.specs.Text.{fault_or, text_verdict}
+use Rattle.text.specs.Text as law
 use Rattle.refusals.specs.Texts.{spot_of, BadByteAt, BadSpacingAt, First, Nowhere, Short, Ended, Unended, TextLawful, TextFaulty, too_long, no_end, bad_byte, bad_spacing}
 use Rattle.refusals.proofs.Telling.{Tells, tells_like, tells_ok, tells_err, tells_cond, not_both}
 use Rattle.refusals.proofs.Scanning.{Finds, scan_finds, not_some}
-use Rattle.refusals.proofs.Laws.{byte_test, space_test, byte_decides, space_decides, space_inside, length_parts, end_parts}
+use Rattle.refusals.proofs.Laws.{byte_decides, space_decides, space_inside, length_parts, end_parts}
 
 -- a fault where a search finds something, and else the next answer
 fault_or_tells : (o : Option Spot) (mark : Spot → TextFault) {P : Spot → Type 0} {Q : Type 0} {r : Result (Unit {0}) TextFault} {L : Unit {0} → Type 0} {F : TextFault → Type 0} → Finds o P Q → (Q → Tells r L F)
@@ -60,25 +60,12 @@ module _ (text : List ℕ) where
   all_laws : (u : Unit {0}) → TextLawful text → AllLaws u
   all_laws u l = inr (l.short, inr (l.ended, (l.bytes, (l.spaces, refl))))
 
--- `first` and `second` are any two laws that come to the two tests
-laws_tell : (first second : _) → ((before byte after : ℕ) → broken first before byte after ≡ byte_test before byte after)
-    → ((before byte after : ℕ) → broken second before byte after ≡ space_test before byte after) → (text : List ℕ)
-    → Tells
-    (cond (ltb 16384 (length text)) (Err TooLong)
-    (cond (eqb (length text) 0 || not (eqb (get_or text (length text - 1) 0) 10)) (Err NoEnd)
-    (fault_or (first_broken first start 10 text) BadByte
-    (fault_or (first_broken second start 10 text) Spacing (Ok tt)))))
-    (λ u. TextLawful text) (TextFaulty text)
-laws_tell first second bytes_by spaces_by text =
+-- the verdict on a text tells
+pub text_tells : (text : List ℕ) → Tells (text_verdict text) (λ u. TextLawful text) (TextFaulty text)
+text_tells text =
     tells_like (tells_cond _ (length_parts text) (λ _. tells_err TooLong) (λ _.
     tells_cond _ (end_parts text) (λ _. tells_err NoEnd) (λ ended.
-    fault_or_tells _ BadByte (scan_finds (broken first) (first_broken first) (λ s b. refl) (λ s b x xs. refl) text (BadByteAt text) (λ k b. b.inside)
-    (λ k l. Decides-at _ _ (bytes_by _ _ _) (byte_decides text k l))) (λ _.
-    fault_or_tells _ Spacing (scan_finds (broken second) (first_broken second) (λ s b. refl) (λ s b x xs. refl) text (BadSpacingAt text) (space_inside text)
-    (λ k l. Decides-at _ _ (spaces_by _ _ _) (space_decides text ended k l))) (λ _.
+    fault_or_tells _ BadByte (scan_finds law.bad_byte text (BadByteAt text) (λ k b. b.inside) (byte_decides text)) (λ _.
+    fault_or_tells _ Spacing (scan_finds law.bad_spacing text (BadSpacingAt text) (space_inside text) (space_decides text ended)) (λ _.
     tells_ok tt)))))
     (lawful_by_all text) (all_laws text) (faulty_in_turn text) (in_turn text)
-
--- the verdict on a text tells; the laws have no names here, and `search` finds them
-pub text_tells : (text : List ℕ) → Tells (text_verdict text) (λ u. TextLawful text) (TextFaulty text)
-text_tells text = search laws_tell

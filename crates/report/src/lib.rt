@@ -4,7 +4,7 @@
 #![tactic(auto)]
 
 use aggregates::Bound;
-use atoms::{Bounds, Interpretation, State, has};
+use atoms::{Bounds, Interpretation, has};
 use engine::{Board, Listing, Settled};
 use faults::BenchFault;
 use frameworks::Framework;
@@ -12,101 +12,97 @@ use layers::Joined;
 use programs::RuleProgram;
 use sheet::{name_of, read};
 use std::io;
-use std::io::Write;
+use std::io::{BufWriter, Write};
 use tables::table::Table;
 
 // What a sheet comes to.
-type Pile = Joined<RuleProgram<Bound>, Framework>;
+pub type Pile = Joined<RuleProgram<Bound>, Framework>;
 
 // No listing of at most 16 open atoms is longer.
 const MOST: u32 = 65537;
 
-fn word(state: State) -> &'static str {
-    match state {
-        State::On => "on",
-        State::Off => "off",
-        State::Open => "open",
+// A sheet that is read: what it says, and the text in which its names stand.
+#[derive(Clone, Copy)]
+struct Sheet<'a> {
+    table: &'a Table,
+    text: &'a [u8],
+}
+
+impl Sheet<'_> {
+    fn write_name<W: Write>(self, out: &mut W, atom: u8) -> io::Result<()> {
+        match name_of(self.table, self.text, atom) {
+            Ok(name) => out.write_all(name),
+            Err(_) => Ok(()),
+        }
     }
+
+    fn write_states<W: Write>(self, out: &mut W, bounds: Bounds) -> io::Result<()> {
+        for atom in 0..self.table.width {
+            self.write_name(out, atom)?;
+            let state = bounds.state(atom);
+            writeln!(out, " {state}")?;
+        }
+        Ok(())
+    }
+
+    fn write_standing<W: Write>(self, out: &mut W, standing: Interpretation) -> io::Result<()> {
+        write!(out, "standing")?;
+        for atom in 0..self.table.width {
+            if has(standing, atom) {
+                write!(out, " ")?;
+                self.write_name(out, atom)?;
+            }
+        }
+        writeln!(out)
+    }
+
+    fn write_listing<W: Write>(self, out: &mut W, mut listing: Listing<Pile>) -> io::Result<()> {
+        // counted, since that the listing ends is known of lawful piles and not of its type
+        for _ in 0..MOST {
+            let Some(standing) = listing.next() else {
+                break;
+            };
+            self.write_standing(out, standing)?;
+        }
+        let total = listing.tally();
+        writeln!(out, "total {total}")
+    }
+
+    fn write_settled<W: Write>(self, out: &mut W, board: Settled<Pile>) -> io::Result<()> {
+        self.write_states(out, board.bounds())?;
+        match board.list() {
+            Ok(listing) => self.write_listing(out, listing),
+            Err(refused) => write_refusal(out, refused.into()),
+        }
+    }
+}
+
+fn write_refusal<W: Write>(out: &mut W, fault: BenchFault) -> io::Result<()> {
+    writeln!(out, "refused {fault}")
 }
 
 // The settled board of a sheet, which is read into the table.
-fn settled(table: &mut Table, text: &[u8]) -> Result<Settled<Pile>, BenchFault> {
+pub fn settled(table: &mut Table, text: &[u8]) -> Result<Settled<Pile>, BenchFault> {
     read(table, text)?;
     let pile = Joined::new(RuleProgram::of(table, Bound), Framework::of(table));
-    match Board::new(pile).settle() {
-        Ok(board) => Ok(board),
-        Err(refused) => Err(refused.fault),
-    }
+    Ok(Board::new(pile).settle()?)
 }
 
-fn print_fault(rt: &HostRuntime, fault: BenchFault) -> io::Result<()> {
-    let number = fault.number();
-    let layer = fault.layer().name();
-    let spot = fault.spot();
-    let line = spot.line;
-    let column = spot.column;
-    println!(rt; "refused {number} {layer} {line} {column}")
-}
-
-fn print_name(rt: &HostRuntime, table: &Table, text: &[u8], atom: u8) -> io::Result<()> {
-    match name_of(table, text, atom) {
-        Ok(name) => rt.stdout().write_all(name),
-        Err(_) => Ok(()),
-    }
-}
-
-fn print_states(rt: &HostRuntime, table: &Table, text: &[u8], bounds: Bounds) -> io::Result<()> {
-    for atom in 0..table.width {
-        print_name(rt, table, text, atom)?;
-        let state = word(bounds.state(atom));
-        println!(rt; " {state}")?;
-    }
-    Ok(())
-}
-
-fn print_standing(
-    rt: &HostRuntime,
-    table: &Table,
-    text: &[u8],
-    standing: Interpretation,
-) -> io::Result<()> {
-    print!(rt; "standing")?;
-    for atom in 0..table.width {
-        if has(standing, atom) {
-            print!(rt; " ")?;
-            print_name(rt, table, text, atom)?;
+fn write_answer<W: Write>(out: &mut W, text: &[u8]) -> io::Result<()> {
+    let mut table = Table::fresh();
+    match settled(&mut table, text) {
+        Ok(board) => Sheet {
+            table: &table,
+            text,
         }
+        .write_settled(out, board),
+        Err(fault) => write_refusal(out, fault),
     }
-    println!(rt; "")
-}
-
-fn print_listing(
-    rt: &HostRuntime,
-    table: &Table,
-    text: &[u8],
-    mut listing: Listing<Pile>,
-) -> io::Result<()> {
-    for _ in 0..MOST {
-        match listing.next() {
-            Some(standing) => print_standing(rt, table, text, standing)?,
-            None => break,
-        }
-    }
-    let total = listing.tally();
-    println!(rt; "total {total}")
 }
 
 // Prints the whole answer to a sheet.
-pub fn print_answer(rt: &HostRuntime, text: &[u8]) -> io::Result<()> {
-    let mut table = Table::fresh();
-    match settled(&mut table, text) {
-        Err(fault) => print_fault(rt, fault),
-        Ok(board) => {
-            print_states(rt, &table, text, board.bounds())?;
-            match board.list() {
-                Ok(listing) => print_listing(rt, &table, text, listing),
-                Err(refused) => print_fault(rt, refused.fault),
-            }
-        }
-    }
+pub fn print_answer<R: Print + AllocGlobal>(rt: &R, text: &[u8]) -> io::Result<()> {
+    let mut out = BufWriter::new(rt.alloc(), io::writer(rt))?;
+    write_answer(&mut out, text)?;
+    out.flush()
 }

@@ -1,9 +1,7 @@
-mod Stepping
 mod Fresh
 mod Sectioning
-mod Naming
-mod Announcing
+mod Reading
 mod Opening
+mod Newlines
 mod Filling
-mod Concluding
 mod Rightly

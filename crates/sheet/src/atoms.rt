@@ -15,12 +15,7 @@ fn place_of(table: &Table, atom: u8) -> Place
     ensures { result ≡ place_of table.now atom }
 {
     let places = table.names.as_slice();
-    let i = atom as usize;
-    if i < places.len() {
-        places[i]
-    } else {
-        Place::zero()
-    }
+    places.get(atom as usize).copied().unwrap_or(Place::zero())
 }
 
 // The name of an atom, as a part of the text: the empty part if its place is not in that text.

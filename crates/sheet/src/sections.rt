@@ -1,91 +1,39 @@
-// The sections below the contents, line by line.
-ghost use Rattle.std.specs.Prelude.{◌≡◌, ℕ, ◌≤◌, [], length, take, drop, OnOk};
-ghost use Rattle.tables.specs.Tables.{zero_place, zero_aggregate, zero_rule, zero_relay};
+// A section below the contents, line by line.
+ghost use Rattle.std.specs.Prelude.{◌≡◌, ◌≤◌, [], length, take, drop, IfOk, OnOk};
+ghost use Rattle.std.specs.Result.{result_map_both};
+ghost use Rattle.tables.specs.Rows.{laid, in_use};
 ghost use Rattle.text.specs.Lines.{lines_left};
-ghost use Rattle.text.specs.Names.{names_of};
-ghost use Rattle.grammar.specs.Verdicts.{rows_read, names_read, load_read, rule_read, relay_read};
-ghost use Rattle.sheet.specs.Sections.{laid_rows};
+ghost use Rattle.grammar.specs.Lines.{line_read};
+ghost use Rattle.sheet.specs.Sections.{section_read};
 
-use super::lines::{load_line, name_line, relay_line, rule_line};
+use super::lines::read_row;
 use faults::SheetFault;
-use grammar::Names;
+use grammar::{LineKind, Standing};
 use tables::rows::Rows;
-use tables::table::{Aggregate, Place, RelayLine, Rule};
 use text::reader::Reader;
 
-// So many name lines; a name's place is where its line begins.
-pub(super) fn read_names(
-    text: &[u8],
+// So many lines of one kind, each read below the rows of those before it; `zero` fills the rows that are not in use.
+pub(super) fn read_section<K: LineKind, const N: usize>(
+    kind: &K,
+    zero: K::Row,
     count: u8,
     reader: &mut Reader,
-) -> Result<Rows<Place, 64>, SheetFault>
-    requires { (count ≤ 64) × (count ≤ length (lines_left reader.old)) }
-    ensures gives { result ≡ laid_rows 64 zero_place (names_read text.now reader.old.position [] (take count (lines_left reader.old))) }
+) -> Result<Rows<K::Row, N>, SheetFault>
+    requires counted { N ≤ 255 }
+    requires room { count ≤ N }
+    requires lines { count ≤ length (lines_left reader.old) }
+    ensures gives { section_read (λ above from. line_read (K.follows kind.now above from) K.gives K.missing K.begins) [] reader.old.position (take count (lines_left reader.old)) ≡ result_map_both (in_use N) (λ fault. fault) result }
+    ensures laid { IfOk result (λ rows. rows ≡ laid N zero (in_use N rows)) }
     ensures leaves { OnOk result (lines_left reader.new ≡ drop count (lines_left reader.old)) }
 {
-    let mut rows = Rows::new(Place::zero());
+    let mut rows = Rows::new(zero);
     'section: for _n in 0..count {
         let from = reader.position() as u16;
-        let names = Names {
-            text,
-            places: rows.as_slice(),
+        let at = Standing {
+            above: rows.as_slice(),
+            from,
         };
-        let row = name_line(names, from, reader.line())?;
-        let _ = rows.push(row);
-    }
-    Ok(rows)
-}
-
-// So many load lines.
-pub(super) fn read_loads(
-    names: Names,
-    count: u8,
-    reader: &mut Reader,
-) -> Result<Rows<Aggregate, 32>, SheetFault>
-    requires { (count ≤ 32) × (count ≤ length (lines_left reader.old)) }
-    ensures gives { result ≡ laid_rows 32 zero_aggregate (rows_read (load_read (names_of names.entry.text.now (take 64 names.entry.places.now))) [] (take count (lines_left reader.old))) }
-    ensures leaves { OnOk result (lines_left reader.new ≡ drop count (lines_left reader.old)) }
-{
-    let mut rows = Rows::new(Aggregate::zero());
-    'section: for _n in 0..count {
-        let row = load_line(names, reader.line())?;
-        let _ = rows.push(row);
-    }
-    Ok(rows)
-}
-
-// So many rule lines, where so many loads are announced.
-pub(super) fn read_rules(
-    names: Names,
-    loads: u8,
-    count: u8,
-    reader: &mut Reader,
-) -> Result<Rows<Rule, 128>, SheetFault>
-    requires { (count ≤ 128) × (count ≤ length (lines_left reader.old)) }
-    ensures gives { result ≡ laid_rows 128 zero_rule (rows_read (rule_read (names_of names.entry.text.now (take 64 names.entry.places.now)) loads) [] (take count (lines_left reader.old))) }
-    ensures leaves { OnOk result (lines_left reader.new ≡ drop count (lines_left reader.old)) }
-{
-    let mut rows = Rows::new(Rule::zero());
-    'section: for _n in 0..count {
-        let row = rule_line(names, loads, reader.line())?;
-        let _ = rows.push(row);
-    }
-    Ok(rows)
-}
-
-// So many relay lines, of which none is of an atom that has one above.
-pub(super) fn read_relays(
-    names: Names,
-    count: u8,
-    reader: &mut Reader,
-) -> Result<Rows<RelayLine, 64>, SheetFault>
-    requires { (count ≤ 64) × (count ≤ length (lines_left reader.old)) }
-    ensures gives { result ≡ laid_rows 64 zero_relay (rows_read (relay_read (names_of names.entry.text.now (take 64 names.entry.places.now))) [] (take count (lines_left reader.old))) }
-    ensures leaves { OnOk result (lines_left reader.new ≡ drop count (lines_left reader.old)) }
-{
-    let mut rows = Rows::new(RelayLine::zero());
-    'section: for _n in 0..count {
-        let row = relay_line(names, rows.as_slice(), reader.line())?;
+        let row = read_row(kind, &at, reader.line())?;
         let _ = rows.push(row);
     }
     Ok(rows)

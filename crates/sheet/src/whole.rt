@@ -1,53 +1,56 @@
 // A whole sheet.
 ghost use Rattle.std.specs.Prelude.{◌≡◌, ℕ, ◌+◌, ◌≤◌, [], length, take, drop};
+ghost use Rattle.tables.specs.Rows.{laid, in_use};
+ghost use Rattle.tables.specs.Tables.{zero_place};
 ghost use Rattle.text.specs.Lines.{lines_left, lines_of};
+ghost use Rattle.text.specs.Text.{text_verdict};
 ghost use Rattle.grammar.specs.Verdicts.{names_read, rest_read, onward, lines_read, verdict};
 ghost use Rattle.sheet.specs.Sections.{LawfulContents, counts_in, announced_in};
 ghost use Rattle.sheet.specs.Reads.{answer, table_after, RightlyRead};
 
 use super::contents::{Contents, read_contents};
-use super::sections::{read_loads, read_names, read_relays, read_rules};
+use super::sections::read_section;
 use faults::SheetFault;
-use grammar::Names;
-use tables::table::Table;
+use grammar::{LoadLine, NameLine, Names, RelayRow, RuleLine};
+use tables::rows::Rows;
+use tables::table::{Aggregate, Place, RelayLine, Rule, Table};
 use text::check::check_text;
 use text::reader::Reader;
 
-// How many lines a text has.
+// How many lines a text has that breaks no law of the text, so that it ends with a newline.
+#[tactic(auto, using(crate::proofs::Newlines::lines_counted))]
 fn count_lines(text: &[u8]) -> u32
-    requires { length text.now ≤ 16384 }
+    requires { text_verdict text.now ≡ Ok tt }
     ensures { result ≡ length (lines_of text.now) }
 {
-    let mut reader = Reader::new(text);
-    'lines: while reader.has_line() {
-        let _ = reader.line();
-    }
-    reader.lines_read()
+    text.iter().filter(|byte| **byte == b'\n').count() as u32
 }
 
-impl Contents {
-    // How many lines are announced, these four among them.
-    fn announced(self) -> u32
-        ensures { result ≡ announced_in self }
-    {
-        4 + self.marks as u32 + self.loads as u32 + self.rules as u32 + self.relays as u32
-    }
-}
-
-// The lines below the contents.
-fn read_bodies(text: &[u8], contents: Contents, reader: &mut Reader) -> Result<Table, SheetFault>
+// The lines below the names: loads, rules and relay lines.
+fn read_rest(
+    text: &[u8],
+    contents: Contents,
+    names: Rows<Place, 64>,
+    reader: &mut Reader,
+) -> Result<Table, SheetFault>
     requires few { LawfulContents contents }
-    requires all { 4 + length (lines_left reader.old) ≡ announced_in contents }
-    ensures { result ≡ onward (names_read text.now reader.old.position [] (take contents.marks (lines_left reader.old))) (λ places. rest_read text.now (counts_in contents) places (drop contents.marks (lines_left reader.old))) }
+    requires all { contents.loads + contents.rules + contents.relays ≡ length (lines_left reader.old) }
+    requires named { names ≡ laid 64 zero_place (in_use 64 names) }
+    ensures { result ≡ rest_read text.now (counts_in contents) (in_use 64 names) (lines_left reader.old) }
 {
-    let names = read_names(text, contents.marks, reader)?;
     let known = Names {
         text,
         places: names.as_slice(),
     };
-    let aggregates = read_loads(known, contents.loads, reader)?;
-    let rules = read_rules(known, contents.loads, contents.rules, reader)?;
-    let relays = read_relays(known, contents.relays, reader)?;
+    let load = LoadLine { names: known };
+    let rule = RuleLine {
+        names: known,
+        loads: contents.loads,
+    };
+    let relay = RelayRow { names: known };
+    let aggregates = read_section(&load, Aggregate::zero(), contents.loads, reader)?;
+    let rules = read_section(&rule, Rule::zero(), contents.rules, reader)?;
+    let relays = read_section(&relay, RelayLine::zero(), contents.relays, reader)?;
     Ok(Table {
         width: contents.marks,
         names,
@@ -57,9 +60,20 @@ fn read_bodies(text: &[u8], contents: Contents, reader: &mut Reader) -> Result<T
     })
 }
 
+// The lines below the contents: the names, then the rest.
+fn read_bodies(text: &[u8], contents: Contents, reader: &mut Reader) -> Result<Table, SheetFault>
+    requires few { LawfulContents contents }
+    requires all { 4 + length (lines_left reader.old) ≡ announced_in contents }
+    ensures { result ≡ onward (names_read text.now reader.old.position [] (take contents.marks (lines_left reader.old))) (λ places. rest_read text.now (counts_in contents) places (drop contents.marks (lines_left reader.old))) }
+{
+    let names = read_section(&NameLine { text }, Place::zero(), contents.marks, reader)?;
+    read_rest(text, contents, names, reader)
+}
+
 // The lines of a text that breaks no law of the text.
+#[tactic(auto, using(crate::proofs::Opening::opened))]
 fn read_lines(text: &[u8]) -> Result<Table, SheetFault>
-    requires { length text.now ≤ 16384 }
+    requires { text_verdict text.now ≡ Ok tt }
     ensures { result ≡ lines_read text.now (lines_of text.now) }
 {
     let mut reader = Reader::new(text);

@@ -1,50 +1,48 @@
 -- Narrower bounds: the climb to what can be founded, and that no stable interpretation is lost.
-use Rattle.std.proofs.Common.{◌≡◌, ℕ, ◌-◌, ◌^◌, ◌<◌, sym, ap, ◌∙◌, subst, arith}
-use lib.Bits.{bit_and, bit_or, and_le_r, or_lt}
+use Rattle.std.proofs.Common.{ℕ, sym, ap, ◌∙◌, subst, inl, inr}
+use lib.Bits.{bit_and, bit_or}
+use Rattle.std.specs.Int.Bits.{or_zero_r}
+use Rattle.std.proofs.lemmas.Bool.{cases_eq}
 use Rattle.atoms.specs.Sets.{Within}
 use Rattle.atoms.specs.declared.bounds.Bounds.{Bounds}
-use Rattle.atoms.proofs.Inclusion.{within_refl, within_trans, within_eq, within_lt, and_within_l, and_within_r, within_and, or_within, or_within_l, or_within_r, joined_within}
+use Rattle.atoms.proofs.Inclusion.{within_refl, within_trans, zero_within, within_eq, and_within_l, and_within_r, within_and, or_within, or_within_l, or_within_r}
 use Rattle.approx.specs.Meanings.{Meaning}
-use Rattle.approx.specs.Settling.{Climbs, rests, goes}
+use Rattle.approx.specs.Settling.{Climbs, rests, goes, Rises}
 use Rattle.approx.proofs.Laws.{Lawful}
 use Rattle.approx.proofs.Climbing.{climb_rests, climb_keeps, sure_up, sure_down, may_up}
 use Rattle.solver.specs.Search.{Inside, grounded, Founded, Narrows}
 
--- ---- climbing as a loop does it
--- the climb has come to c: over the lower, within what follows it, and on the way from the lower
-pub record GroundWay (m : Meaning) (b : Bounds) (c : ℕ) : Type 0 where
-  pub over : Within b.lower c
-  pub rises : Within c (grounded m b c)
-  pub leads : (d : ℕ) → Climbs (grounded m b) c d → Climbs (grounded m b) b.lower d
+-- ---- the climb to what can be founded
+module _ (m : Meaning) (b : Bounds) where
+  -- the atoms of the upper that may be on between the lower and it with those of c
+  abbrev pub kept : ℕ → ℕ
+  kept c = bit_and b.upper (m.may b.lower (bit_or b.lower c))
 
-pub ground_start : (m : Meaning) (b : Bounds) → GroundWay m b b.lower
-ground_start m b = record {
-  over = within_refl b.lower;
-  rises = or_within_l b.lower (bit_and b.upper (m.may b.lower b.lower));
-  leads = λ d r. r;
-}
+  pub kept_rises : Lawful m → Rises kept 0 b.upper
+  kept_rises laws = record {
+    room = zero_within b.upper;
+    starts = zero_within (kept 0);
+    stays = and_within_l b.upper (m.may b.lower (bit_or b.lower b.upper));
+    grows = λ c d h i k.
+        within_and (and_within_l b.upper (m.may b.lower (bit_or b.lower c)))
+        (within_trans (and_within_r b.upper (m.may b.lower (bit_or b.lower c)))
+        (may_up laws (or_within_l b.lower c) (or_within (or_within_l b.lower d) (within_trans i (or_within_r b.lower d)))));
+  }
 
--- s is what the question over c was answered by
-module _ {m : Meaning} (laws : Lawful m) (b : Bounds) {c s : ℕ} (w : GroundWay m b c) (e : s ≡ m.may b.lower c) where
-  next_is : bit_or b.lower (bit_and b.upper s) ≡ grounded m b c
-  next_is = ap (λ (x : ℕ). bit_or b.lower (bit_and b.upper x)) e
+  -- with the lower in it, that is the climb from the lower
+  grounded_climb : {c d : ℕ} → Climbs kept c d → Climbs (grounded m b) (bit_or b.lower c) (bit_or b.lower d)
+  grounded_climb (rests e) = rests (ap (bit_or b.lower) e)
+  grounded_climb {c} {d} (goes n r) = elim (cases_eq (bit_or b.lower (kept c)) (bit_or b.lower c)) [
+    | inl e ↦ subst (λ x. Climbs (grounded m b) x (bit_or b.lower d)) e (grounded_climb r)
+    | inr k ↦ goes k (grounded_climb r)
+  ]
 
-  pub ground_turn : (bit_or b.lower (bit_and b.upper s) ≡ c → ⊥) → GroundWay m b (bit_or b.lower (bit_and b.upper s))
-  ground_turn n =
-      let told : ℕ = m.may b.lower c in
-      subst (GroundWay m b) (sym next_is) (record {
-        over = or_within_l b.lower (bit_and b.upper told);
-        rises = joined_within (within_refl b.lower) (within_and (and_within_l b.upper told) (within_trans (and_within_r b.upper told) (may_up laws w.over w.rises)));
-        leads = λ d r. w.leads d (goes (λ q. n (next_is ∙ q)) r);
-      })
-
-  pub ground_less : b.lower < 2 ^ 64 → s < 2 ^ 64 → (bit_or b.lower (bit_and b.upper s) ≡ c → ⊥) → 2 ^ 64 - bit_or b.lower (bit_and b.upper s) < 2 ^ 64 - c
-  ground_less hl hs n =
-      let more : c < bit_or b.lower (bit_and b.upper s) = within_lt (within_trans w.rises (within_eq (sym next_is))) (λ q. n (sym q)) in
-      omega (arith, or_lt 64 b.lower (bit_and b.upper s) hl (omega (arith, and_le_r b.upper s)))
-
-  pub ground_end : bit_or b.lower (bit_and b.upper s) ≡ c → Founded m b (bit_and b.upper s)
-  ground_end n = record { end = c; climbs = w.leads c (rests (sym next_is ∙ n)); is = ap (bit_and b.upper) e }
+  pub founded_is : {v : ℕ} → Climbs kept 0 v → Founded m b v
+  founded_is {v} r = record {
+    end = bit_or b.lower v;
+    climbs = subst (λ x. Climbs (grounded m b) x (bit_or b.lower v)) (or_zero_r b.lower) (grounded_climb r);
+    is = sym (climb_rests r);
+  }
 
 -- ---- what can be founded
 module _ {m : Meaning} {b : Bounds} {v : ℕ} (f : Founded m b v) where

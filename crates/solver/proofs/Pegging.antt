@@ -11,8 +11,8 @@ use Rattle.approx.specs.Meanings.{Meaning}
 use Rattle.approx.specs.Stability.{Stable}
 use Rattle.solver.specs.Lists.{Counted}
 use Rattle.solver.specs.Pegs.{Wanted, pegged, Pegs}
-use Rattle.solver.specs.Search.{Inside, FirstAfter, NoneAfter, Sought}
-use Rattle.solver.proofs.Alikeness.{Alike, first_alike, none_alike, sought_alike, counted_alike}
+use Rattle.solver.specs.Search.{Inside, Sought}
+use Rattle.solver.proofs.Alikeness.{Alike, sought_alike, counted_alike}
 
 -- ---- between the pegged bounds
 module _ (b : Bounds) (on off : ℕ) (hu : b.upper < 2 ^ 64) (hoff : off < 2 ^ 64) where
@@ -39,12 +39,6 @@ module _ {m : Meaning} {b c : Bounds} {on off : ℕ} (pegs : Pegs b on off c) (b
     there = λ x i. record { stable = i.stable; pegged_on = pegs.has_on x i.between; pegged_off = pegs.lacks_off x i.between };
     back = λ x w. record { stable = w.stable; between = pegs.keeps x (bounded x w.stable) w.pegged_on w.pegged_off };
   }
-
-  pub wanted_first : (after : Option ℕ) {y : ℕ} → FirstAfter (Inside m c) after y → FirstAfter (Wanted m on off) after y
-  wanted_first = first_alike wanted_alike
-
-  pub wanted_none : (after : Option ℕ) → NoneAfter (Inside m c) after → NoneAfter (Wanted m on off) after
-  wanted_none = none_alike wanted_alike
 
   pub wanted_sought : (after answer : Option ℕ) → Sought (Inside m c) after answer → Sought (Wanted m on off) after answer
   wanted_sought = sought_alike wanted_alike

@@ -1,3 +1,4 @@
+pub mod Ascents
 pub mod Lists
 pub mod Pegs
 pub mod Search

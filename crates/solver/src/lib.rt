@@ -2,6 +2,7 @@
 // and a search for the stable ones between bounds. No question that it puts is crossed.
 #![tactic(auto)]
 
+mod climb;
 mod pegs;
 mod search;
 mod settling;

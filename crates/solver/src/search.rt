@@ -5,6 +5,7 @@ ghost use Rattle.approx.specs.Meanings.{meaning};
 ghost use Rattle.solver.specs.Lists.{Counted, Tallied};
 ghost use Rattle.solver.specs.Search.{Inside, Founded, Narrows, Leaves, Forks, After, Sought};
 
+use super::climb::climb;
 use super::pegs::pegged;
 use super::stability::is_stable;
 use approx::Approximator;
@@ -23,19 +24,10 @@ enum Fork {
 fn founded<A: Approximator>(pile: &A, bounds: Bounds) -> Interpretation
     ensures { Founded (meaning A.Approximator pile.now) bounds result }
 {
-    let mut reach = bounds.lower;
-    'climb: loop {
-        let asked = Bounds {
-            lower: bounds.lower,
-            upper: reach,
-        };
-        let kept = bounds.upper & pile.may(asked);
-        let next = bounds.lower | kept;
-        if next == reach {
-            return kept;
-        }
-        reach = next;
-    }
+    climb(0, |kept| {
+        let upper = bounds.lower | kept;
+        bounds.upper & pile.may(Bounds { upper, ..bounds })
+    })
 }
 
 // The bounds narrowed by what is sure and by what can be founded; they are crossed only where they hold nothing stable.
@@ -57,17 +49,12 @@ fn left_between<A: Approximator>(pile: &A, bounds: Bounds) -> Fork
         return Fork::Nothing;
     }
     match lowest(bounds.open_atoms()) {
-        None => {
-            if is_stable(pile, bounds.lower) {
-                Fork::Single(bounds.lower)
-            } else {
-                Fork::Nothing
-            }
-        }
         Some(atom) => {
             let chosen = only(atom);
             Fork::Two(pegged(bounds, 0, chosen), pegged(bounds, chosen, 0))
         }
+        None if is_stable(pile, bounds.lower) => Fork::Single(bounds.lower),
+        None => Fork::Nothing,
     }
 }
 
@@ -83,33 +70,7 @@ fn branch<A: Approximator>(pile: &A, bounds: Bounds) -> Fork
 fn comes_after(z: Interpretation, after: Option<Interpretation>) -> bool
     ensures { Decides result (After after z) }
 {
-    match after {
-        None => true,
-        Some(earlier) => comes_before(earlier, z),
-    }
-}
-
-// As `first_after`, between bounds that are not crossed.
-fn seek<A: Approximator>(
-    pile: &A,
-    bounds: Bounds,
-    after: Option<Interpretation>,
-) -> Option<Interpretation>
-    requires { Proper bounds }
-    ensures { Sought (Inside (meaning A.Approximator pile.now) bounds) after result }
-{
-    // the upper comes last of all that lies between the bounds
-    if !comes_after(bounds.upper, after) {
-        return None;
-    }
-    match branch(pile, bounds) {
-        Fork::Nothing => None,
-        Fork::Single(z) => { if comes_after(z, after) { Some(z) } else { None } }
-        Fork::Two(without, with) => match seek(pile, without, after) {
-            Some(y) => Some(y),
-            None => seek(pile, with, after),
-        },
-    }
+    after.is_none_or(|earlier| comes_before(earlier, z))
 }
 
 // The first stable interpretation between the bounds, in listing order, that comes after the one that is given.
@@ -120,22 +81,21 @@ pub fn first_after<A: Approximator>(
 ) -> Option<Interpretation>
     ensures { Sought (Inside (meaning A.Approximator pile.now) bounds) after result }
 {
-    if bounds.is_proper() {
-        seek(pile, bounds, after)
-    } else {
-        None
+    if !bounds.is_proper() {
+        return None;
     }
-}
-
-// As `count`, between bounds that are not crossed.
-fn add_up<A: Approximator>(pile: &A, bounds: Bounds) -> u32
-    requires { Proper bounds }
-    ensures { Tallied (Inside (meaning A.Approximator pile.now) bounds) (2 ^ open_count bounds) result }
-{
+    // the upper comes last of all that lies between the bounds
+    if !comes_after(bounds.upper, after) {
+        return None;
+    }
     match branch(pile, bounds) {
-        Fork::Nothing => 0,
-        Fork::Single(_) => 1,
-        Fork::Two(without, with) => add_up(pile, without).saturating_add(add_up(pile, with)),
+        Fork::Nothing => None,
+        Fork::Single(z) => comes_after(z, after).then_some(z),
+        // a closure for the second part would have to repeat what is promised of the whole
+        Fork::Two(without, with) => match first_after(pile, without, after) {
+            None => first_after(pile, with, after),
+            found => found,
+        },
     }
 }
 
@@ -144,9 +104,12 @@ pub fn count<A: Approximator>(pile: &A, bounds: Bounds) -> u32
     ensures tallied { Tallied (Inside (meaning A.Approximator pile.now) bounds) (2 ^ open_count bounds) result }
     ensures exact { open_count bounds ≤ 16 → Counted (Inside (meaning A.Approximator pile.now) bounds) result }
 {
-    if bounds.is_proper() {
-        add_up(pile, bounds)
-    } else {
-        0
+    if !bounds.is_proper() {
+        return 0;
+    }
+    match branch(pile, bounds) {
+        Fork::Nothing => 0,
+        Fork::Single(_) => 1,
+        Fork::Two(without, with) => count(pile, without).saturating_add(count(pile, with)),
     }
 }

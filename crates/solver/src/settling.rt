@@ -1,10 +1,11 @@
 // Settling: from the first bounds, round by round, until the bounds repeat.
-ghost use Rattle.std.specs.Prelude.{◌≡◌, ℕ, min, Decides, MatchResult};
+ghost use Rattle.std.specs.Prelude.{◌≡◌, ℕ, min, MatchResult};
 ghost use Rattle.atoms.specs.Sets.{Within};
 ghost use Rattle.approx.specs.Meanings.{meaning};
 ghost use Rattle.approx.specs.Settling.{Climbs, NextBounds, Rounds, Reached, first_bounds, Settles, Crosses};
 ghost use Rattle.faults.specs.declared.BenchFault.TheVariants.{Crossed};
 
+use super::climb::climb;
 use approx::Approximator;
 use atoms::{Bounds, Interpretation, full};
 use faults::BenchFault;
@@ -14,14 +15,7 @@ pub(crate) fn climb_lower<A: Approximator>(pile: &A, upper: Interpretation) -> I
     requires { Within (A.sure pile.now upper upper) upper }
     ensures { Climbs (λ x. A.sure pile.now x upper) 0 result }
 {
-    let mut lower: Interpretation = 0;
-    'climb: loop {
-        let next = pile.sure(Bounds { lower, upper });
-        if next == lower {
-            return lower;
-        }
-        lower = next;
-    }
+    climb(0, |lower| pile.sure(Bounds { lower, upper }))
 }
 
 // The climb by may from the lower, over it.
@@ -29,14 +23,7 @@ fn climb_upper<A: Approximator>(pile: &A, lower: Interpretation) -> Interpretati
     requires { Within lower (A.may pile.now lower lower) }
     ensures { Climbs (λ x. A.may pile.now lower x) lower result }
 {
-    let mut upper = lower;
-    'climb: loop {
-        let next = pile.may(Bounds { lower, upper });
-        if next == upper {
-            return upper;
-        }
-        upper = next;
-    }
+    climb(lower, |upper| pile.may(Bounds { lower, upper }))
 }
 
 // One round: the bounds after these.
@@ -71,13 +58,6 @@ pub fn bounds_after<A: Approximator>(pile: &A, rounds: u32) -> Bounds
     bounds
 }
 
-// Whether the bounds equal their successor.
-fn repeats(bounds: Bounds, next: Bounds) -> bool
-    ensures { Decides result (bounds ≡ next) }
-{
-    bounds == next
-}
-
 // The earliest bounds that equal their successor, or the fault of bounds that cross before that.
 pub fn settle<A: Approximator>(pile: &A) -> Result<Bounds, BenchFault>
     ensures { MatchResult result
@@ -87,7 +67,7 @@ pub fn settle<A: Approximator>(pile: &A) -> Result<Bounds, BenchFault>
     let mut bounds = first_bounds(pile);
     'settle: loop {
         let next = next_bounds(pile, bounds);
-        if repeats(bounds, next) {
+        if bounds == next {
             return Ok(bounds);
         }
         if !next.is_proper() {

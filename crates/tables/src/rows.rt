@@ -1,13 +1,18 @@
 // A list of fixed size, for items that are put in one after another.
-ghost use Rattle.std.specs.Prelude.{◌≡◌, [], length, ◌==◌};
+ghost use Rattle.std.specs.Prelude.{◌≡◌, [], ◌≤◌, length, is_ok, ◌==◌};
 ghost use Rattle.tables.specs.Rows.{laid, in_use, has_room, pushed};
 
-// `count` rows are in use, the first ones; the others hold what they began with.
+// `count` rows are in use, the first ones; the others hold what they began with. An array with its count, and no `Vec`: the
+// record that a sheet fills asks for no memory, and equal sheets give equal records, unused rows and all.
 #[derive(Clone, Copy)]
 pub struct Rows<T, const N: usize> {
     count: u8,
     items: [T; N],
 }
+
+// Every row is in use.
+#[derive(Clone, Copy, Debug, PartialEq, Eq)]
+pub struct NoRoom;
 
 impl<T: Copy, const N: usize> Rows<T, N> {
     // No rows in use, and `zero` in each.
@@ -22,15 +27,10 @@ impl<T: Copy, const N: usize> Rows<T, N> {
 
     // The items in use, in the order in which they were put in.
     pub fn as_slice(&self) -> &[T]
-        ensures { result.now ≡ in_use N self.now }
+        ensures is { result.now ≡ in_use N self.now }
+        ensures few { length result.now ≤ N }
     {
-        let all = &self.items[..];
-        let count = self.count as usize;
-        if count < all.len() {
-            &all[0..count]
-        } else {
-            all
-        }
+        &self.items[..(self.count as usize).min(N)]
     }
 
     // How many items are in use.
@@ -54,17 +54,17 @@ impl<T: Copy, const N: usize> Rows<T, N> {
         (self.count as usize) < N && self.count < u8::MAX
     }
 
-    // Puts an item behind the others; says no, and changes nothing, where there is no room for it.
-    pub fn push(&mut self, item: T) -> bool
-        ensures answers { result ≡ has_room N self.old }
+    // Puts an item behind the others, or changes nothing where there is no room for it.
+    pub fn push(&mut self, item: T) -> Result<(), NoRoom>
+        ensures answers { is_ok result ≡ has_room N self.old }
         ensures holds { self.new ≡ pushed N self.old item }
     {
         let count = self.count as usize;
         if count >= N || self.count == u8::MAX {
-            return false;
+            return Err(NoRoom);
         }
         self.items[count] = item;
         self.count += 1;
-        true
+        Ok(())
     }
 }

@@ -27,7 +27,8 @@ pub enum Kind {
     Count,
 }
 
-// An atom or its negation with its weight; in a count every weight is 1.
+// An atom or its negation with its weight; in a count every weight is 1. That it is negated says nothing of whether the
+// atom or the weight is there, so it is no `Option`.
 #[derive(Clone, Copy, Debug, PartialEq, Eq)]
 pub struct Entry {
     pub weight: i16,
@@ -77,7 +78,7 @@ pub struct Table {
 }
 
 impl Place {
-    // What stands in a row of names that is not in use.
+    // What stands in a row of names that is not in use. No `Default`, here and below: as a value it means nothing.
     pub fn zero() -> Place
         ensures { result ≡ zero_place }
     {

@@ -1,22 +1,15 @@
--- One step in the search for a name.
-use Rattle.std.proofs.Common.{◌≡◌, ℕ, ◌+◌, ◌<◌, ◌≤◌, true, false, cond, List, length, get_or, drop, Some, None, Option, sym, ap, ◌∙◌}
+-- The atom that a word names is the position of the first place that holds it.
+use Rattle.std.proofs.Common.{◌≡◌, ℕ, ◌+◌, cond, List, [], ◌∷◌, Some, refl, ap, ◌∙◌}
+use Rattle.std.specs.List.{position, position_from}
 use Rattle.std.specs.Str.{bytes_eq}
-use Rattle.std.proofs.lemmas.List.{at_drop_more, at_drop_all}
+use Rattle.std.proofs.lemmas.Iterator.Adapters.{position_from-zero}
 use Rattle.tables.specs.declared.table.Place.{Place}
-use Rattle.tables.specs.Tables.{zero_place}
 use Rattle.text.specs.Names.{part_of, names_of, atom_among}
 
-module _ (text : List ℕ) (places : List Place) (word : List ℕ) (i : ℕ) (total : Option ℕ) (inv : atom_among i (names_of text (drop i places)) word ≡ total) where
-  pub no_name : length places ≤ i → None ≡ total
-  no_name h = sym (at_drop_all (λ l. atom_among i (names_of text l) word) places i h) ∙ inv
+module _ (text word : List ℕ) where
+  named_from : (number : ℕ) (places : List Place) → position_from (λ place. bytes_eq (part_of text place) word) number places ≡ atom_among number (names_of text places) word
+  named_from number [] = refl
+  named_from number (place ∷ places) = ap (cond (bytes_eq (part_of text place) word) (Some number)) (named_from (number + 1) places)
 
-  module _ (h : i < length places) (name : List ℕ) (is : name ≡ part_of text (get_or places i zero_place)) where
-    step : cond (bytes_eq name word) (Some i) (atom_among (i + 1) (names_of text (drop (i + 1) places)) word) ≡ total
-    step = ap (λ n. cond (bytes_eq n word) (Some i) (atom_among (i + 1) (names_of text (drop (i + 1) places)) word)) is
-        ∙ sym (at_drop_more (λ l. atom_among i (names_of text l) word) places i zero_place h) ∙ inv
-
-    pub name_found : true ≡ bytes_eq name word → Some i ≡ total
-    name_found e = let s = step in cc
-
-    pub name_other : false ≡ bytes_eq name word → atom_among (i + 1) (names_of text (drop (i + 1) places)) word ≡ total
-    name_other e = let s = step in cc
+  pub named : (places : List Place) → position (λ place. bytes_eq (part_of text place) word) places ≡ atom_among 0 (names_of text places) word
+  named places = position_from-zero {B = Place} (λ place. bytes_eq (part_of text place) word) places ∙ named_from 0 places

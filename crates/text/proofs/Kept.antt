@@ -5,16 +5,7 @@ use Rattle.std.proofs.lemmas.Bool.{cond-false, eq-eqb, ne_eqb, eqb-true, eqb-fal
 use Rattle.faults.specs.declared.Spot.{Spot}
 use Rattle.faults.specs.declared.TextFault.{TextFault}
 use Rattle.faults.specs.declared.TextFault.TheVariants.{BadByte, Spacing}
-use Rattle.text.specs.declared.check.Law.{Law}
-use Rattle.text.specs.declared.check.Law.TheVariants.{Bytes, Spaces}
-use Rattle.text.specs.Text.{start, past, broken, first_broken, fault_or, text_verdict}
-
--- the two laws, as tests of a byte between its neighbours
-abbrev pub bad_byte : ℕ → ℕ → ℕ → Bool
-bad_byte before byte after = broken Bytes before byte after
-
-abbrev pub bad_space : ℕ → ℕ → ℕ → Bool
-bad_space before byte after = broken Spaces before byte after
+use Rattle.text.specs.Text.{start, past, bad_byte, bad_spacing, first_broken, fault_or, text_verdict}
 
 -- no byte fails the test, where the text goes on after a byte
 abbrev pub Kept : (ℕ → ℕ → ℕ → Bool) → ℕ → List ℕ → Type 0
@@ -26,27 +17,27 @@ pub record Passes (text : List ℕ) : Type 0 where
   pub front : List ℕ
   pub ends : front ++ 10 ∷ [] ≡ text
   pub bytes : Kept bad_byte 10 text
-  pub spaces : Kept bad_space 10 text
+  pub spaces : Kept bad_spacing 10 text
 
-kept_none : (law : Law) (spot : Spot) (before : ℕ) (bytes : List ℕ) → Kept (broken law) before bytes → first_broken law spot before bytes ≡ None
-kept_none law spot before [] c = refl
-kept_none law spot before (b ∷ bs) c = cond-false _ _ _ c.0 ∙ kept_none law (past spot b) b bs c.1
+kept_none : (bad : ℕ → ℕ → ℕ → Bool) (spot : Spot) (before : ℕ) (bytes : List ℕ) → Kept bad before bytes → first_broken bad spot before bytes ≡ None
+kept_none bad spot before [] c = refl
+kept_none bad spot before (b ∷ bs) c = cond-false _ _ _ c.0 ∙ kept_none bad (past spot b) b bs c.1
 
-none_kept : (law : Law) (spot : Spot) (before : ℕ) (bytes : List ℕ) → first_broken law spot before bytes ≡ None → Kept (broken law) before bytes
-none_kept law spot before [] e = tt
-none_kept law spot before (b ∷ bs) e =
-    elim (broken law before b (get_or bs 0 10)) as (λ t. cond t (Some spot) (first_broken law (past spot b) b bs) ≡ None → (t ≡ false) × Kept (broken law) b bs) [
-      | true ↦ λ q. let z : ◌≡◌ {A = ℕ} 0 1 = cc in absurd (omega arith)
-      | false ↦ λ q. (refl, none_kept law (past spot b) b bs q)
+none_kept : (bad : ℕ → ℕ → ℕ → Bool) (spot : Spot) (before : ℕ) (bytes : List ℕ) → first_broken bad spot before bytes ≡ None → Kept bad before bytes
+none_kept bad spot before [] e = tt
+none_kept bad spot before (b ∷ bs) e =
+    elim (bad before b (get_or bs 0 10)) as (λ t. cond t (Some spot) (first_broken bad (past spot b) b bs) ≡ None → (t ≡ false) × Kept bad b bs) [
+      | true ↦ λ q. cc
+      | false ↦ λ q. (refl, none_kept bad (past spot b) b bs q)
     ] e
 
 -- a test or a spot that leads to a fault was not met
 past_test : (b : Bool) (f : TextFault) (next : Result (Unit {0}) TextFault) (u : Unit {0}) → cond b (Err f) next ≡ Ok u → (b ≡ false) × (next ≡ Ok u)
-past_test true f next u e = let z : ◌≡◌ {A = ℕ} 0 1 = cc in absurd (omega arith)
+past_test true f next u e = cc
 past_test false f next u e = (refl, e)
 
 past_spot : (o : Option Spot) (fault : Spot → TextFault) (next : Result (Unit {0}) TextFault) (u : Unit {0}) → fault_or o fault next ≡ Ok u → (o ≡ None) × (next ≡ Ok u)
-past_spot (Some spot) fault next u e = let z : ◌≡◌ {A = ℕ} 0 1 = cc in absurd (omega arith)
+past_spot (Some spot) fault next u e = cc
 past_spot None fault next u e = (refl, e)
 
 module _ (text : List ℕ) where
@@ -76,12 +67,12 @@ module _ (text : List ℕ) where
       record {
         front = take (length text - 1) text;
         ends = ends_from ended.0;
-        bytes = none_kept Bytes start 10 text printed.0;
-        spaces = none_kept Spaces start 10 text spaced.0;
+        bytes = none_kept bad_byte start 10 text printed.0;
+        spaces = none_kept bad_spacing start 10 text spaced.0;
       }
 
   pub kept_passes : length text ≤ 16384 → Passes text → text_verdict text ≡ Ok tt
   kept_passes short p =
       cond-false _ _ _ (le-ltb 16384 (length text) short) ∙ cond-false _ _ _ (has_end p.front p.ends)
-      ∙ ap (λ o. fault_or o BadByte (fault_or (first_broken Spaces start 10 text) Spacing (Ok tt))) (kept_none Bytes start 10 text p.bytes)
-      ∙ ap (λ o. fault_or o Spacing (Ok tt)) (kept_none Spaces start 10 text p.spaces)
+      ∙ ap (λ o. fault_or o BadByte (fault_or (first_broken bad_spacing start 10 text) Spacing (Ok tt))) (kept_none bad_byte start 10 text p.bytes)
+      ∙ ap (λ o. fault_or o Spacing (Ok tt)) (kept_none bad_spacing start 10 text p.spaces)

@@ -2,6 +2,4 @@ pub mod Cuts
 pub mod Figures
 pub mod Finds
 pub mod Laws
-pub mod Scan
-pub mod Spelling
 pub mod Kept

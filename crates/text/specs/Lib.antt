@@ -1,3 +1,4 @@
+pub mod Keys
 pub mod Lines
 pub mod Names
 pub mod Numbers

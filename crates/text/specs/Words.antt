@@ -1,5 +1,6 @@
 -- What a word says.
 use Rattle.std.specs.Prelude.{ℕ, Bool, true, false, cond, ◌&&◌, ◌||◌, List, [], ◌∷◌, length, ℤ, Some, None, codes, Option, ◌==◌, int_le, nat_le, nat_lt, slice_index}
+use Rattle.std.specs.List.{list_all}
 use Rattle.std.specs.Str.{bytes_eq}
 use Rattle.text.specs.declared.word.Key.{Key}
 use Rattle.text.specs.declared.word.Key.TheVariants as key
@@ -33,8 +34,7 @@ name_byte byte = is_letter byte || ((nat_le 48 byte && nat_le byte 57) || byte =
 
 -- Every byte is one that a name is written with.
 abbrev pub name_bytes : List ℕ → Bool
-name_bytes [] = true
-name_bytes (byte ∷ bytes) = name_byte byte && name_bytes bytes
+name_bytes bytes = list_all name_byte bytes
 
 -- A name has 1 to 16 such bytes, a letter first.
 abbrev pub lawful_name : List ℕ → Bool

@@ -2,7 +2,6 @@
 // Nothing is copied: a word is a part of the text that is lent.
 #![tactic(auto)]
 
-pub mod bytes;
 pub mod check;
 pub mod names;
 mod number;

@@ -1,30 +1,25 @@
 // Numbers as a sheet writes them: in decimal, up to a million either way.
-ghost use Rattle.std.specs.Prelude.{◌≡◌, ℕ, ◌≤◌, Some, None};
-ghost use Rattle.text.specs.Numbers.{is_digit, well_begun, magnitude_of, number_of};
+ghost use Rattle.std.specs.Prelude.{◌≡◌, ◌≤◌, IfSome};
+ghost use Rattle.text.specs.Numbers.{well_begun, magnitude_of, number_of};
 
 // The largest number that a sheet may write.
 const LIMIT: u32 = 1000000;
-
-fn digit(byte: u8) -> bool
-    ensures { result ≡ is_digit byte }
-{
-    byte >= b'0' && byte <= b'9'
-}
 
 // Whether a word begins as a number may: with no zero before another digit.
 fn begun_well(word: &[u8]) -> bool
     ensures { result ≡ well_begun word.now }
 {
     match word {
-        [] => false,
-        [_] => true,
-        [first, ..] => *first != b'0',
+        [] | [b'0', _, ..] => false,
+        _ => true,
     }
 }
 
 // The number that a word of digits writes. It stops at the first digit that makes the number too large, so that no sum wraps.
+// A `for`, since in a `try_fold` the closure would have to require that bound of the sum so far.
+#[tactic(auto, using(crate::proofs::Figures::digit_over))]
 fn magnitude(word: &[u8]) -> Option<u32>
-    ensures small { elim result [ None ↦ (0 ≤ 0) | Some n ↦ n ≤ 1000000 ] }
+    ensures small { IfSome result (λ n. n ≤ 1000000) }
     ensures is { result ≡ magnitude_of word.now }
 {
     if !begun_well(word) {
@@ -32,10 +27,10 @@ fn magnitude(word: &[u8]) -> Option<u32>
     }
     let mut n: u32 = 0;
     for b in word {
-        if !digit(*b) {
+        if !b.is_ascii_digit() {
             return None;
         }
-        n = n * 10 + (*b - b'0') as u32;
+        n = n * 10 + u32::from(*b - b'0');
         if n > LIMIT {
             return None;
         }
@@ -47,14 +42,11 @@ fn magnitude(word: &[u8]) -> Option<u32>
 pub(super) fn number(word: &[u8]) -> Option<i32>
     ensures { result ≡ number_of word.now }
 {
-    if word.len() == 0 || word[0] != b'-' {
-        return match magnitude(word) {
-            Some(n) => Some(n as i32),
-            None => None,
-        };
-    }
-    match magnitude(&word[1..]) {
-        Some(n) => if n == 0 { None } else { Some(-(n as i32)) },
-        None => None,
+    match word {
+        [b'-', digits @ ..] => match magnitude(digits)? {
+            0 => None,
+            n => Some(-(n as i32)),
+        },
+        _ => magnitude(word).map(|n| n as i32),
     }
 }

@@ -16,6 +16,7 @@ pub struct Reader<'a> {
 }
 
 // A line with its number, and the position in it up to which it is read.
+// No reader at another byte: a line counts nothing, and all its bytes stay, since its end is told too.
 #[derive(Drop)]
 pub struct Line<'a> {
     bytes: &'a [u8],

@@ -1,12 +1,13 @@
 // What a word says.
 ghost use Rattle.std.specs.Prelude.{◌≡◌};
 ghost use Rattle.std.specs.Option.{option_map};
-ghost use Rattle.text.specs.Words.{key_of, is_letter, name_byte, name_bytes, lawful_name, meaning, said, key_said, name_said, number_said};
+ghost use Rattle.text.specs.Keys.{kind_begun, comparison_signed};
+ghost use Rattle.text.specs.Words.{key_of, name_byte, name_bytes, lawful_name, meaning, said, key_said, name_said, number_said};
 
-use super::bytes::same;
 use super::number::number;
 use super::reader::Piece;
 use faults::Spot;
+use tables::table::{Comparison, Kind};
 
 // The words and signs that have a meaning of their own.
 #[derive(Clone, Copy, Debug, PartialEq, Eq)]
@@ -23,6 +24,40 @@ pub enum Key {
     Unequal,
 }
 
+// A key where another was looked for.
+#[derive(Clone, Copy, Debug, PartialEq, Eq)]
+pub struct OtherKey(pub Key);
+
+impl TryFrom<Key> for Kind {
+    type Error = OtherKey;
+
+    ghost try_from_gives = { λ key r. r ≡ kind_begun key };
+
+    fn try_from(key: Key) -> Result<Kind, OtherKey> {
+        match key {
+            Key::Sum => Ok(Kind::Sum),
+            Key::Count => Ok(Kind::Count),
+            _ => Err(OtherKey(key)),
+        }
+    }
+}
+
+impl TryFrom<Key> for Comparison {
+    type Error = OtherKey;
+
+    ghost try_from_gives = { λ key r. r ≡ comparison_signed key };
+
+    fn try_from(key: Key) -> Result<Comparison, OtherKey> {
+        match key {
+            Key::AtMost => Ok(Comparison::AtMost),
+            Key::AtLeast => Ok(Comparison::AtLeast),
+            Key::Equal => Ok(Comparison::Equal),
+            Key::Unequal => Ok(Comparison::Unequal),
+            _ => Err(OtherKey(key)),
+        }
+    }
+}
+
 // A word with its spot, by what it may say wherever it stands.
 #[derive(Clone, Copy)]
 pub enum Word<'a> {
@@ -36,59 +71,43 @@ pub enum Word<'a> {
 fn key_in(word: &[u8]) -> Option<Key>
     ensures { result ≡ key_of word.now }
 {
-    if same(word, b"if") {
-        Some(Key::If)
-    } else if same(word, b"not") {
-        Some(Key::Not)
-    } else if same(word, b"load") {
-        Some(Key::Load)
-    } else if same(word, b"sum") {
-        Some(Key::Sum)
-    } else if same(word, b"count") {
-        Some(Key::Count)
-    } else if same(word, b"!") {
-        Some(Key::Bang)
-    } else if same(word, b"<=") {
-        Some(Key::AtMost)
-    } else if same(word, b">=") {
-        Some(Key::AtLeast)
-    } else if same(word, b"=") {
-        Some(Key::Equal)
-    } else if same(word, b"!=") {
-        Some(Key::Unequal)
-    } else {
-        None
+    match word {
+        b"if" => Some(Key::If),
+        b"not" => Some(Key::Not),
+        b"load" => Some(Key::Load),
+        b"sum" => Some(Key::Sum),
+        b"count" => Some(Key::Count),
+        b"!" => Some(Key::Bang),
+        b"<=" => Some(Key::AtMost),
+        b">=" => Some(Key::AtLeast),
+        b"=" => Some(Key::Equal),
+        b"!=" => Some(Key::Unequal),
+        _ => None,
     }
 }
 
-fn letter(byte: u8) -> bool
-    ensures { result ≡ is_letter byte }
-{
-    byte >= b'a' && byte <= b'z'
-}
-
+// Whether a byte may stand in a name.
 fn of_name(byte: u8) -> bool
     ensures { result ≡ name_byte byte }
 {
-    letter(byte) || (byte >= b'0' && byte <= b'9') || byte == b'_'
+    byte.is_ascii_lowercase() || byte.is_ascii_digit() || byte == b'_'
 }
 
+// Whether every byte may stand in a name.
 fn all_of_name(word: &[u8]) -> bool
     ensures { result ≡ name_bytes word.now }
 {
-    for b in word {
-        if !of_name(*b) {
-            return false;
-        }
-    }
-    true
+    word.iter().all(|b| of_name(*b))
 }
 
 // Whether a word that is no key can be a name.
 fn lawful(word: &[u8]) -> bool
     ensures { result ≡ lawful_name word.now }
 {
-    word.len() > 0 && word.len() <= 16 && letter(word[0]) && all_of_name(word)
+    match word {
+        [first, ..] => word.len() <= 16 && first.is_ascii_lowercase() && all_of_name(word),
+        [] => false,
+    }
 }
 
 // What a word says. A name is no key, since keys are tried first.
@@ -113,10 +132,8 @@ impl<'a> Word<'a> {
         ensures { result ≡ (said self.entry).1 }
     {
         match self {
-            Word::Name(_, spot) => spot,
-            Word::Number(_, spot) => spot,
-            Word::Key(_, spot) => spot,
-            Word::Other(spot) => spot,
+            Word::Name(_, spot) | Word::Number(_, spot) | Word::Key(_, spot) | Word::Other(spot) =>
+                spot,
         }
     }
 
@@ -145,7 +162,7 @@ impl<'a> Word<'a> {
         ensures { result ≡ number_said low high (said self.entry).0 }
     {
         match self {
-            Word::Number(n, _) => if n >= low && n <= high { Some(n) } else { None },
+            Word::Number(n, _) if low <= n && n <= high => Some(n),
             _ => None,
         }
     }

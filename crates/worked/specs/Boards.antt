@@ -1,7 +1,7 @@
 -- The boards worked by hand, as one table.
 -- Atoms are numbered in the order named. A set is written in binary, atom 0 last: of a and b, 0b01 is a alone and 0b10 is b
 -- alone. Of two sets the one without the lowest atom where they differ is listed first, so b alone comes before a alone.
-use Rattle.std.specs.Prelude.{◌≡◌, ℕ, true, false, List, [], ◌∷◌, ℤ, pos, negsuc}
+use Rattle.std.specs.Prelude.{◌≡◌, ℕ, true, false, List, [], ◌∷◌, Ok, ℤ, pos, negsuc}
 use Rattle.atoms.specs.declared.bounds.Bounds.{Bounds}
 use Rattle.tables.specs.Tables.{table_of, rule_of, relay_of, aggregate_of}
 use Rattle.tables.specs.declared.table.Place.{Place}
@@ -17,7 +17,7 @@ use Rattle.aggregates.specs.Sums.{entries_of, low_sum, high_sum}
 use Rattle.aggregates.specs.Readings.{bound_sure, bound_may}
 use Rattle.layers.specs.Joined.{joined}
 use Rattle.engine.specs.declared.pegs.Sense.TheVariants.{On, Off}
-use Rattle.engine.specs.declared.runs.Event.TheVariants.{Pegged}
+use Rattle.engine.specs.declared.runs.Event.TheVariants.{Peg}
 use Rattle.worked.specs.declared.Example.{Example}
 use Rattle.worked.specs.declared.Example.TheVariants.{EitherOr, DeniesItself, HoldsItself, Chain, Ring, Bare, LoadBound, LoadPlain, RuleAndRelay, EitherOrPegged, HoldsItselfPegged}
 use Rattle.worked.specs.Piles.{rules_bound, rules_plain, relays}
@@ -105,8 +105,8 @@ module _ (names : List Place) where
   row LoadBound = record { board = rules_bound loaded; pegs = []; settled = between 0b1 0b1; stable = 0b1 ∷ []; tally = 1 }
   row LoadPlain = record { board = rules_plain loaded; pegs = []; settled = between 0b0 0b1; stable = []; tally = 0 }
   row RuleAndRelay = record { board = joined (rules_bound rule_and_relay) (relays rule_and_relay); pegs = []; settled = between 0b00 0b11; stable = 0b10 ∷ 0b01 ∷ []; tally = 2 }
-  row EitherOrPegged = record { board = rules_bound either_or; pegs = Pegged a Off ∷ []; settled = between 0b00 0b11; stable = 0b10 ∷ []; tally = 1 }
-  row HoldsItselfPegged = record { board = rules_bound holds_itself; pegs = Pegged p On ∷ []; settled = between 0b0 0b0; stable = []; tally = 0 }
+  row EitherOrPegged = record { board = rules_bound either_or; pegs = Peg a Off (Ok tt) ∷ []; settled = between 0b00 0b11; stable = 0b10 ∷ []; tally = 1 }
+  row HoldsItselfPegged = record { board = rules_bound holds_itself; pegs = Peg p On (Ok tt) ∷ []; settled = between 0b0 0b0; stable = []; tally = 0 }
 
 -- ---- the theorem
 -- with both atoms open its sum is from -1 to 1, so that the load may hold, and not surely

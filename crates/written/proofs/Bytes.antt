@@ -6,9 +6,9 @@ use Rattle.std.proofs.ByRecursion.{All-weaker}
 use Rattle.std.proofs.lemmas.List.{append_assoc, append-nil, length-map}
 use Rattle.std.proofs.lemmas.Bool.{eqb-true}
 use Rattle.std.proofs.lemmas.Bool.Decides.{nat_tests}
-use Rattle.text.specs.Text.{text_verdict}
+use Rattle.text.specs.Text.{bad_byte, bad_spacing, text_verdict}
 use Rattle.text.specs.Lines.{onto, pieces}
-use Rattle.text.proofs.Kept.{Kept, Passes, bad_byte, bad_space, passed_keeps, kept_passes}
+use Rattle.text.proofs.Kept.{Kept, Passes, passed_keeps, kept_passes}
 use Rattle.written.specs.Writing.{Word, spaced, ended, text_of}
 use Rattle.written.proofs.Pieces.{Trim, GoodWord, GoodLine, ended_pieces, spaced_pieces}
 
@@ -28,18 +28,18 @@ trim_all text [] h = tt
 trim_all text ([] ∷ ps) h = absurd (h.0.1 refl)
 trim_all text ((b ∷ bs) ∷ ps) h = h
 
-not_last : (before b after : ℕ) → bad_space before b after ≡ false → after ≡ 10 → b ≡ 32 → ⊥
+not_last : (before b after : ℕ) → bad_spacing before b after ≡ false → after ≡ 10 → b ≡ 32 → ⊥
 not_last before b after h e f = grind (arith, nat_tests)
 
-not_second : (before b after : ℕ) → bad_space before b after ≡ false → b ≡ 10 → before ≡ 10 → ⊥
+not_second : (before b after : ℕ) → bad_spacing before b after ≡ false → b ≡ 10 → before ≡ 10 → ⊥
 not_second before b after h e f = grind (arith, nat_tests)
 
-trimmed_onto : (before b : ℕ) (bs : List ℕ) (ps : List (List ℕ)) → bad_space before b (get_or bs 0 10) ≡ false → Trimmed b bs ps → Trimmed before (b ∷ bs) (onto b ps)
+trimmed_onto : (before b : ℕ) (bs : List ℕ) (ps : List (List ℕ)) → bad_spacing before b (get_or bs 0 10) ≡ false → Trimmed b bs ps → Trimmed before (b ∷ bs) (onto b ps)
 trimmed_onto before b bs [] h t = (not_last before b (get_or bs 0 10) h t, tt)
 trimmed_onto before b bs ([] ∷ ps) h t = (not_last before b (get_or bs 0 10) h t.0.0, t.1)
 trimmed_onto before b bs ((c ∷ cs) ∷ ps) h t = (t.0, t.1)
 
-lines_trimmed : (before : ℕ) (text : List ℕ) → Kept bad_space before text → Trimmed before text (pieces 10 text)
+lines_trimmed : (before : ℕ) (text : List ℕ) → Kept bad_spacing before text → Trimmed before text (pieces 10 text)
 lines_trimmed before [] c = refl
 lines_trimmed before (b ∷ bs) c =
     elim (eqb b 10) as (λ t. eqb b 10 ≡ t → Trimmed before (b ∷ bs) (cond t ([] ∷ pieces 10 bs) (onto b (pieces 10 bs)))) [
@@ -77,7 +77,7 @@ lets_bytes = record {
   newline = λ before after i. refl;
 }
 
-lets_spaces : Lets bad_space
+lets_spaces : Lets bad_spacing
 lets_spaces = record {
   byte = λ before b after i. grind (arith, nat_tests);
   space = λ before after i j. grind (arith, nat_tests);
@@ -133,5 +133,5 @@ good_passes lines some g short =
       front = end.0;
       ends = end.1;
       bytes = keeps_text bad_byte lets_bytes lines g;
-      spaces = keeps_text bad_space lets_spaces lines g;
+      spaces = keeps_text bad_spacing lets_spaces lines g;
     })

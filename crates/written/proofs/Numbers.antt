@@ -32,15 +32,15 @@ digits_all n [] m e = refl
 digits_all n (d ∷ ds) m e =
     elim (is_digit d) as (λ t. cond t (digits (n * 10 + (d - 48)) ds) None ≡ Some m → (t && all_digits ds) ≡ true) [
       | true ↦ λ q. digits_all (n * 10 + (d - 48)) ds m q
-      | false ↦ λ q. let z : ◌≡◌ {A = ℕ} 0 1 = cc in absurd (omega arith)
+      | false ↦ λ q. cc
     ] e
 
 small_some : (o : Option ℕ) (n : ℕ) → small o ≡ Some n → (o ≡ Some n) × (n ≤ 1000000)
-small_some None n e = let z : ◌≡◌ {A = ℕ} 0 1 = cc in absurd (omega arith)
+small_some None n e = cc
 small_some (Some m) n e = grind (arith, nat_tests)
 
 begun_some : (w : List ℕ) → well_begun w ≡ true → (0 < length w) × (get_or w 0 0 ≡ 48 → length w ≡ 1)
-begun_some [] e = let z : ◌≡◌ {A = ℕ} 0 1 = cc in absurd (omega arith)
+begun_some [] e = cc
 begun_some (b ∷ []) e = (omega arith, λ _. refl)
 begun_some (b ∷ c ∷ cs) e = (omega arith, λ z. absurd (eqb-false b 48 (not-true _ e) z))
 
@@ -60,7 +60,7 @@ magnitude_says w n e =
           let same : read_on 0 w ≡ n = let d = digits_read 0 w all in let s = few.0 in cc in
           let under : read_on 0 w < 2 ^ 64 = omega (arith, few.1) in
           (sym (decimal-digits_value own w all begun.0 begun.1 under) ∙ ap decimal same, few.1)
-      | false ↦ λ b q. let z : ◌≡◌ {A = ℕ} 0 1 = cc in absurd (omega arith)
+      | false ↦ λ b q. cc
     ] refl e
 
 module _ (n : ℕ) (few : n ≤ 1000000) where
@@ -101,19 +101,19 @@ pub decimal_length : (n : ℕ) → n ≤ 1000000 → 0 < length (decimal n)
 decimal_length n few = decimal_nonempty n (under n few)
 
 plain_says : (o : Option ℕ) (z : ℤ) → plain o ≡ Some z → (n : ℕ) × (o ≡ Some n) × (z ≡ pos n)
-plain_says None z e = let q : ◌≡◌ {A = ℕ} 0 1 = cc in absurd (omega arith)
+plain_says None z e = cc
 plain_says (Some n) z e = (n, refl, cc)
 
 negative_says : (o : Option ℕ) (z : ℤ) → negative o ≡ Some z → (n : ℕ) × (o ≡ Some (suc n)) × (z ≡ negsuc n)
-negative_says None z e = let q : ◌≡◌ {A = ℕ} 0 1 = cc in absurd (omega arith)
-negative_says (Some zero) z e = let q : ◌≡◌ {A = ℕ} 0 1 = cc in absurd (omega arith)
+negative_says None z e = cc
+negative_says (Some zero) z e = cc
 negative_says (Some (suc n)) z e =
     let q : Some (negsuc n) ≡ Some z = sym (cond-false _ _ _ (ne_eqb (suc n) 0 (λ h. omega arith))) ∙ e in
     (n, refl, cc)
 
 -- a word that writes a number is what writes it, and the number is no larger than a million
 pub number_says : (w : List ℕ) (z : ℤ) → number_of w ≡ Some z → (w ≡ signed_decimal z) × (mag z ≤ 1000000)
-number_says [] z e = let q : ◌≡◌ {A = ℕ} 0 1 = cc in absurd (omega arith)
+number_says [] z e = cc
 number_says (b ∷ bs) z e =
     elim (eqb b 45) as (λ t. eqb b 45 ≡ t → cond t (negative (magnitude_of bs)) (plain (magnitude_of (b ∷ bs))) ≡ Some z → ((b ∷ bs) ≡ signed_decimal z) × (mag z ≤ 1000000)) [
       | true ↦ λ m q.

@@ -6,21 +6,17 @@ use super::super::check::MAX_BYTES;
 use super::{Line, Piece, Reader};
 use faults::Spot;
 
-// The index of the first byte that is `stop`, or the length where there is none.
+// The index of the first byte that is `stop`, or the length where there is none: where a piece ends either way, so no `Option`.
 fn find(bytes: &[u8], stop: u8) -> usize
     ensures within { result ≤ length bytes.now }
     ensures before { (k : ℕ) → k < result → slice_index bytes.now k ≢ stop }
     ensures found { result < length bytes.now → slice_index bytes.now result ≡ stop }
 {
-    for (i, x) in bytes.iter().enumerate() {
-        if *x == stop {
-            return i;
-        }
-    }
-    bytes.len()
+    bytes.iter().position(|x| *x == stop).unwrap_or(bytes.len())
 }
 
 // The piece that begins at a position, up to the byte `stop` or the end.
+#[tactic(auto, using(crate::proofs::Cuts::cut_first))]
 fn piece_at(bytes: &[u8], position: usize, stop: u8) -> &[u8]
     requires { position < length bytes.now }
     ensures cut { pieces stop (drop position bytes.now) ≡ result.now ∷ pieces stop (drop (position + (length result.now + 1)) bytes.now) }
@@ -28,36 +24,26 @@ fn piece_at(bytes: &[u8], position: usize, stop: u8) -> &[u8]
 {
     let left = &bytes[position..];
     let n = find(left, stop);
-    &left[0..n]
-}
-
-// The part of a text that is read at all: its first bytes.
-fn readable(text: &[u8]) -> &[u8]
-    ensures front { result.now ≡ take 16384 text.now }
-    ensures within { length result.now ≤ 16384 }
-{
-    if text.len() <= MAX_BYTES {
-        text
-    } else {
-        &text[0..MAX_BYTES]
-    }
+    &left[..n]
 }
 
 impl<'a> Reader<'a> {
     // A reader at the start of a text. A text that is too long is read as far as a text may go.
+    #[tactic(auto, using(std::proofs::lemmas::List::take_min))]
     pub fn new(text: &'a [u8]) -> Reader<'a>
         ensures text { whole result ≡ take 16384 text.now }
         ensures position { result.position ≡ 0 }
         ensures lines { result.lines ≡ 0 }
     {
         Reader {
-            text: readable(text),
+            text: &text[..MAX_BYTES.min(text.len())],
             position: 0,
             lines: 0,
         }
     }
 
     // Whether a line is left to read.
+    #[tactic(auto, using(crate::proofs::Cuts::line_left))]
     pub fn has_line(&self) -> bool
         ensures { result ≡ has_line self.now }
     {
@@ -65,6 +51,7 @@ impl<'a> Reader<'a> {
     }
 
     // The next line; past the end an empty one, again with the last number.
+    // No `Option`: each section reads as many lines as were counted before, and would have to refuse a want that cannot be.
     pub fn line(&mut self) -> Line<'a>
         ensures gives { as_line result ≡ slice_index_or (lines_left self.old) 0 (no_line self.old) }
         ensures fresh { result.position ≡ 0 }
@@ -76,12 +63,12 @@ impl<'a> Reader<'a> {
         let text = self.text;
         if self.position >= text.len() {
             return Line {
-                bytes: &text[0..0],
+                bytes: &[],
                 position: 0,
                 number: self.lines,
             };
         }
-        let bytes = piece_at(text, self.position, 10);
+        let bytes = piece_at(text, self.position, b'\n');
         self.position += bytes.len() + 1;
         self.lines += 1;
         Line {
@@ -109,7 +96,7 @@ impl<'a> Line<'a> {
         if self.position >= line.len() {
             return None;
         }
-        let bytes = piece_at(line, self.position, 32);
+        let bytes = piece_at(line, self.position, b' ');
         let at = Spot::new(self.number, self.position as u32 + 1);
         self.position += bytes.len() + 1;
         Some(Piece { bytes, at })

@@ -10,8 +10,7 @@ use Rattle.classics.proofs.models.well_founded_model.Goals as goal
 pub returns : goal.returns
 returns g c =
     let p = c.args.program.now in
-    let met = g.met.R.Reading in
-    let laws : Lawful (program_meaning g.R.Reading p) = program_lawful g.R.Reading met.truth met.precise p in
+    let laws : Lawful (program_meaning g.R.Reading p) = program_lawful g.R.Reading g.met.R.Reading.laws p in
     record {
       settled = MatchResult-weaker c.settle.result c.settle.ensures (λ b s. s) (λ f x. settled_uncrossed laws x.1);
       model = MatchResult-weaker c.settle.result c.settle.ensures

@@ -1,6 +1,6 @@
-use Rattle.std.proofs.Common.{◌≡◌, drop}
-use Rattle.frameworks.specs.Makers.{with_lines, lines_of}
+use Rattle.std.proofs.Common.{◌≡◌, take}
+use Rattle.frameworks.specs.Makers.{lines_of}
 use Rattle.frameworks.proofs.maker.lines_of.Given as goal
 
 abbrev pub invariant-loop-line : goal.invariant-loop-line
-invariant-loop-line l = with_lines l.table (drop l.line-index l.lines) ≡ lines_of l.lines
+invariant-loop-line l = l.table ≡ lines_of (take l.line-index l.lines)

@@ -1,14 +1,14 @@
-use Rattle.std.proofs.Common.{◌≤◌, length, ap, ◌∙◌, arith}
-use Rattle.std.proofs.lemmas.List.{take_all}
-use Rattle.programs.specs.Reducts.{reduct_rows}
-use Rattle.programs.specs.Gathering.{few_rows}
+use Rattle.std.proofs.Common.{true, false, ap, ◌∙◌}
+use Rattle.tables.specs.Rows.{pushed}
 use Rattle.programs.proofs.Keeping.{reduct_more}
 use Rattle.programs.proofs.rules.reduct_rows.Goals as goal
+use Rattle.programs.proofs.rules.reduct_rows.Goals.{then-spares, else-spares}
 
 pub loop-clause-preserved : goal.loop-clause-preserved
 loop-clause-preserved c =
-    let rows : length c.args.clauses.items ≤ 128 = omega arith in
-    reduct_more c.args.z _ _ _ c.loop-clause-test.true (few_rows c.args.clauses rows c.as_slice-clause-items.ensures) c.loop-clause.invariant c.keep.ensures
-
-pub returns : goal.returns
-returns c = c.loop-clause.invariant ∙ ap (reduct_rows c.args.z) (take_all _ _ c.loop-clause-test.false ∙ c.as_slice-clause-items.ensures)
+    let z = c.args.z in
+    let few = c.as_slice-clause-items.ensures.few in
+    elim c.if-spares.branch [
+      | then-spares w ↦ reduct_more z _ _ _ true c.loop-clause-test.true few c.loop-clause.invariant (w.if-spares.ensures) (w.reduct-is ∙ w.push.ensures.holds ∙ ap (pushed 128 c.loop-clause.reduct) w.unbarred.ensures)
+      | else-spares w ↦ reduct_more z _ _ _ false c.loop-clause-test.true few c.loop-clause.invariant (w.if-spares.ensures) w.reduct-is
+    ]

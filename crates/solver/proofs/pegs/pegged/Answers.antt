@@ -1,8 +1,6 @@
-use Rattle.std.proofs.Common.{◌^◌, ◌<◌, refl, arith}
+use Rattle.std.proofs.Common.{arith}
 use Rattle.solver.proofs.Pegging.{pegs_hold}
 use Rattle.solver.proofs.pegs.pegged.Goals as goal
 
-pub returns : goal.returns
-returns c =
-    let fits : c.args.bounds.upper < 2 ^ 64 = omega arith in
-    record { is = refl; holds = pegs_hold c.args.bounds c.args.on c.args.off fits c.ranges.off.fits }
+pub returns-clause-holds : goal.returns-clause-holds
+returns-clause-holds c = pegs_hold c.args.bounds c.args.on c.args.off (omega arith) c.ranges.off.fits

@@ -2,19 +2,16 @@ use Rattle.std.proofs.Common.{ℕ, ◌^◌, ◌<◌, sym, refl, ◌∙◌, subst
 use Rattle.std.proofs.lemmas.Bool.{false≢true}
 use Rattle.atoms.specs.Sets.{Lowest}
 use Rattle.approx.specs.Meanings.{meaning}
-use Rattle.solver.proofs.Parting.{crossed_leaves, closed_one, closed_none, parts}
+use Rattle.solver.proofs.Parting.{closed_one, closed_none, parts}
 use Rattle.solver.proofs.search.left_between.Goals as goal
 
-pub returns-then-not-is_proper : goal.returns-then-not-is_proper
-returns-then-not-is_proper g c = crossed_leaves (λ p. false≢true (c.if-not-is_proper.ensures.1 p))
-
-pub returns-then-is_stable : goal.returns-then-is_stable
-returns-then-is_stable g c =
+pub returns-in-None : goal.returns-in-None
+returns-in-None g c =
     let fits : c.args.bounds.upper < 2 ^ 64 = omega arith in
     closed_one {m = meaning g.A.Approximator c.args.pile.now} fits (sym c.open_atoms.ensures ∙ c.in-None.ensures) (c.if-not-is_proper.ensures.0 refl) (c.if-is_stable.ensures.0 refl)
 
-pub returns-else-is_stable : goal.returns-else-is_stable
-returns-else-is_stable g c =
+pub returns-in-None-2 : goal.returns-in-None-2
+returns-in-None-2 g c =
     let fits : c.args.bounds.upper < 2 ^ 64 = omega arith in
     closed_none {m = meaning g.A.Approximator c.args.pile.now} fits (sym c.open_atoms.ensures ∙ c.in-None.ensures) (λ s. false≢true (c.if-is_stable.ensures.1 s))
 

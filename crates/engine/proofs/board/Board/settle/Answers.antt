@@ -1,13 +1,8 @@
 use Rattle.std.proofs.Common.{refl}
-use Rattle.approx.specs.Meanings.{meaning}
-use Rattle.approx.proofs.Laws.{Lawful, lawful}
+use Rattle.approx.proofs.Laws.{lawful}
 use Rattle.approx.proofs.Rounding.{settles_one, settled_uncrossed}
 use Rattle.approx.proofs.Steadiness.{stable_between}
-use Rattle.engine.proofs.board.Board.settle.Given as given
 use Rattle.engine.proofs.board.Board.settle.Goals as goal
-
-laws : (g : given.Over) (a : g.row.A.Denot) → Lawful (meaning g.A.Approximator a)
-laws g a = let met = g.met.A.Approximator in lawful g.A.Approximator met.wide met.exact met.precise met.below met.ignores a
 
 pub returns-in-Ok : goal.returns-in-Ok
 returns-in-Ok g c =
@@ -16,8 +11,8 @@ returns-in-Ok g c =
       pile = refl;
       settled = s;
       only = λ b t. settles_one t s;
-      stable_within = λ z t. stable_between (laws g c.args.self.pile) t s.reached;
-      uncrossed = λ x. settled_uncrossed (laws g c.args.self.pile) x;
+      stable_within = λ z t. stable_between (lawful (g.met.A.Approximator.laws c.args.self.pile)) t s.reached;
+      uncrossed = λ x. settled_uncrossed (lawful (g.met.A.Approximator.laws c.args.self.pile)) x;
     }
 
 pub returns-in-Err : goal.returns-in-Err
@@ -27,5 +22,5 @@ returns-in-Err g c =
       fault = x.0;
       board_back = refl;
       crossed = x.1;
-      unsettled = λ b t. settled_uncrossed (laws g c.args.self.pile) x.1;
+      unsettled = λ b t. settled_uncrossed (lawful (g.met.A.Approximator.laws c.args.self.pile)) x.1;
     }

@@ -1,24 +1,16 @@
-use Rattle.std.proofs.Common.{◌≡◌, ℕ, min, sym, ap, ◌∙◌, subst, ap₂, arith}
-use lib.Bits.{bit_or}
+use Rattle.std.proofs.Common.{rules, ◌≡◌, ℕ, min, sym, subst}
 use Rattle.atoms.specs.Sets.{Has}
-use Rattle.atoms.proofs.Collecting.{collected_none, collected_more}
+use Rattle.atoms.proofs.Judging.{judged_collected}
 use Rattle.frameworks.specs.Lines.{stands, unattacked}
 use Rattle.frameworks.specs.Standing.{unattacked_has, unattacked_all}
 use Rattle.frameworks.proofs.table.RelayTable.unattacked.Goals as goal
-
-pub loop-atom-init : goal.loop-atom-init
-loop-atom-init c = sym (collected_none (stands c.args.self.now c.args.against))
-
-pub loop-atom-preserved : goal.loop-atom-preserved
-loop-atom-preserved c = ap₂ bit_or c.loop-atom.invariant c.share-all.ensures ∙ sym (collected_more (stands c.args.self.now c.args.against) c.loop-atom.atom)
 
 pub returns : goal.returns
 returns c =
     let t = c.args.self.now in
     let w : ℕ = min c.args.width 64 in
     let s : ℕ = c.args.against in
-    let end : c.loop-atom.atom ≡ w = omega (arith, c.loop-atom-test.false, c.loop-atom.auto.atom-end, c.min-atom-end.ensures) in
-    let e : c.loop-atom.all ≡ unattacked t w s = c.loop-atom.invariant ∙ ap (λ (n : ℕ). unattacked t n s) end in
+    let e : c.those.result ≡ unattacked t w s = judged_collected (stands t s) (record { below = c.those.ensures.below; has = λ i h. (let q = c.those.ensures.has i h in search rules) }) in
     record {
       is = e;
       has = λ i h. unattacked_has t w s i (subst (λ (x : ℕ). Has x i) e h);

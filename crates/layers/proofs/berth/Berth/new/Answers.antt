@@ -5,6 +5,5 @@ use Rattle.layers.proofs.berth.Berth.new.Goals as goal
 
 pub returns : goal.returns
 returns g c =
-    let a = g.met.A.Approximator in
     granted g.A.Approximator c.args.pile c.args.first c.new.result
-    (lawful g.A.Approximator a.wide a.exact a.precise a.below a.ignores c.args.pile) (omega arith) (omega arith) (omega arith)
+    (lawful (g.met.A.Approximator.laws c.args.pile)) (omega arith) (omega arith) (omega arith)

@@ -1,0 +1,8 @@
+use Rattle.std.proofs.Common.{ap₂, arith}
+use lib.Bits.{bit_or}
+use Rattle.atoms.proofs.Inclusion.{within_narrow}
+use Rattle.layers.proofs.joined.JoinedApproximator.may.Goals as goal
+
+pub returns : goal.returns
+returns g c = λ p.
+    ap₂ bit_or (c.may.ensures (within_narrow _ _ _ _ (omega arith) p)) (c.may-2.ensures (within_narrow _ _ _ _ (omega arith) p))

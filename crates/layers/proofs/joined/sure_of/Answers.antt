@@ -1,5 +1,0 @@
-use Rattle.atoms.proofs.Inclusion.{within_narrow}
-use Rattle.layers.proofs.joined.sure_of.Goals as goal
-
-pub returns : goal.returns
-returns g c = λ w h p. c.sure.ensures (within_narrow c.args.bounds.lower c.args.bounds.upper (g.A.Approximator.width c.args.side.now) w h p)
