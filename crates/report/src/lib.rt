@@ -1,9 +1,22 @@
-// From a sheet's bytes to the bench's whole answer, which it prints: each mark with `on`, `off` or `open`, each stable
+// From a sheet's bytes to the bench's whole answer, as a value and printed: each mark with `on`, `off` or `open`, each stable
 // interpretation as a line `standing`, and their number; or the refusal. The rule part, by the bound reading, is joined
-// with the relay part.
+// with the relay part. specs/Answers.antt says what the answer is.
 #![tactic(auto)]
 
+ghost use Rattle.std.specs.Prelude.{◌≡◌, ◌<◌, [], OnOk, IfOk};
+ghost use Rattle.std.specs.Io.KnownBytes.{Appends};
+ghost use Rattle.approx.specs.Meanings.{meaning};
+ghost use Rattle.approx.specs.Settling.{Settles};
+ghost use Rattle.grammar.specs.Verdicts.{verdict};
+ghost use Rattle.sheet.specs.Reads.{table_after};
+ghost use Rattle.engine.specs.Listings.{Ran};
+ghost use Rattle.report.specs.Sheets.{SettlesTo};
+ghost use Rattle.report.specs.Lines.{name, state_line, state_lines, name_if_on, standing_line, refusal_line};
+ghost use Rattle.report.specs.Answers.{IsListing, IsSettledAnswer, IsAnswer, AppendsSome, HasOneAnswer};
+ghost use Rattle.report.specs.Handing.{HandsNext};
+
 use aggregates::Bound;
+use approx::Approximator;
 use atoms::{Bounds, Interpretation, has};
 use engine::{Board, Listing, Settled};
 use faults::BenchFault;
@@ -11,15 +24,13 @@ use frameworks::Framework;
 use layers::Joined;
 use programs::RuleProgram;
 use sheet::{name_of, read};
+use std::alloc::Global;
 use std::io;
-use std::io::{BufWriter, Write};
+use std::io::Write;
 use tables::table::Table;
 
 // What a sheet comes to.
 pub type Pile = Joined<RuleProgram<Bound>, Framework>;
-
-// No listing of at most 16 open atoms is longer.
-const MOST: u32 = 65537;
 
 // A sheet that is read: what it says, and the text in which its names stand.
 #[derive(Clone, Copy)]
@@ -29,46 +40,104 @@ struct Sheet<'a> {
 }
 
 impl Sheet<'_> {
-    fn write_name<W: Write>(self, out: &mut W, atom: u8) -> io::Result<()> {
+    // Writes an atom's name. A `match`: an atom below the width has one, and nothing is owed of any other.
+    fn write_name<W: Write>(self, out: &mut W, atom: u8) -> io::Result<()>
+        requires { atom < self.table.now.width }
+        ensures { OnOk result (Appends (W.contents out.old) (W.contents out.new) (name self.entry.text.now self.entry.table.now atom)) }
+    {
         match name_of(self.table, self.text, atom) {
             Ok(name) => out.write_all(name),
             Err(_) => Ok(()),
         }
     }
 
-    fn write_states<W: Write>(self, out: &mut W, bounds: Bounds) -> io::Result<()> {
+    // Writes the line of an atom's state.
+    fn write_state<W: Write>(self, out: &mut W, bounds: Bounds, atom: u8) -> io::Result<()>
+        requires { atom < self.table.now.width }
+        ensures { OnOk result (Appends (W.contents out.old) (W.contents out.new) (state_line self.entry.text.now self.entry.table.now bounds atom)) }
+    {
+        self.write_name(out, atom)?;
+        let state = bounds.state(atom);
+        writeln!(out, " {state}")
+    }
+
+    // Writes the lines of all atoms' states.
+    fn write_states<W: Write>(self, out: &mut W, bounds: Bounds) -> io::Result<()>
+        ensures { OnOk result (Appends (W.contents out.old) (W.contents out.new) (state_lines self.entry.text.now self.entry.table.now bounds)) }
+    {
         for atom in 0..self.table.width {
-            self.write_name(out, atom)?;
-            let state = bounds.state(atom);
-            writeln!(out, " {state}")?;
+            self.write_state(out, bounds, atom)?;
         }
         Ok(())
     }
 
-    fn write_standing<W: Write>(self, out: &mut W, standing: Interpretation) -> io::Result<()> {
+    // Writes what the line of a standing says of an atom.
+    fn write_if_on<W: Write>(
+        self,
+        out: &mut W,
+        standing: Interpretation,
+        atom: u8,
+    ) -> io::Result<()>
+        requires { atom < self.table.now.width }
+        ensures { OnOk result (Appends (W.contents out.old) (W.contents out.new) (name_if_on self.entry.text.now self.entry.table.now standing atom)) }
+    {
+        if !has(standing, atom) {
+            return Ok(());
+        }
+        write!(out, " ")?;
+        self.write_name(out, atom)
+    }
+
+    // Writes the line of a standing.
+    fn write_standing<W: Write>(self, out: &mut W, standing: Interpretation) -> io::Result<()>
+        ensures { OnOk result (Appends (W.contents out.old) (W.contents out.new) (standing_line self.entry.text.now self.entry.table.now standing)) }
+    {
         write!(out, "standing")?;
         for atom in 0..self.table.width {
-            if has(standing, atom) {
-                write!(out, " ")?;
-                self.write_name(out, atom)?;
-            }
+            self.write_if_on(out, standing, atom)?;
         }
         writeln!(out)
     }
 
-    fn write_listing<W: Write>(self, out: &mut W, mut listing: Listing<Pile>) -> io::Result<()> {
-        // counted, since that the listing ends is known of lawful piles and not of its type
-        for _ in 0..MOST {
-            let Some(standing) = listing.next() else {
-                break;
-            };
-            self.write_standing(out, standing)?;
+    // Writes the line of the next standing, if there is one.
+    fn write_next<W: Write, A: Approximator>(
+        self,
+        out: &mut W,
+        listing: &mut Listing<A>,
+    ) -> io::Result<()>
+        ensures { OnOk result (HandsNext A.Approximator (standing_line self.entry.text.now self.entry.table.now) (W.contents out.old) (W.contents out.new) listing.old listing.new) }
+    {
+        match listing.next() {
+            Some(standing) => self.write_standing(out, standing),
+            None => Ok(()),
         }
+    }
+
+    // Writes the lines of all standings and of their number; they are as many as the tally says.
+    fn write_listing<W: Write, A: Approximator + Drop>(
+        self,
+        out: &mut W,
+        mut listing: Listing<A>,
+    ) -> io::Result<()>
+        requires { Ran A.Approximator [] listing }
+        ensures { OnOk result (AppendsSome (IsListing self.entry.text.now self.entry.table.now (meaning A.Approximator listing.pile)) (W.contents out.old) (W.contents out.new)) }
+    {
         let total = listing.tally();
+        for _number in 0..total {
+            self.write_next(out, &mut listing)?;
+        }
         writeln!(out, "total {total}")
     }
 
-    fn write_settled<W: Write>(self, out: &mut W, board: Settled<Pile>) -> io::Result<()> {
+    // Writes the answer to a sheet whose bounds settle.
+    fn write_settled<W: Write, A: Approximator + Drop>(
+        self,
+        out: &mut W,
+        board: Settled<A>,
+    ) -> io::Result<()>
+        requires { Settles (meaning A.Approximator board.pile) board.bounds }
+        ensures { OnOk result (AppendsSome (IsSettledAnswer self.entry.text.now self.entry.table.now (meaning A.Approximator board.pile)) (W.contents out.old) (W.contents out.new)) }
+    {
         self.write_states(out, board.bounds())?;
         match board.list() {
             Ok(listing) => self.write_listing(out, listing),
@@ -77,18 +146,28 @@ impl Sheet<'_> {
     }
 }
 
-fn write_refusal<W: Write>(out: &mut W, fault: BenchFault) -> io::Result<()> {
+// Writes the line of a refusal.
+fn write_refusal<W: Write>(out: &mut W, fault: BenchFault) -> io::Result<()>
+    ensures { OnOk result (Appends (W.contents out.old) (W.contents out.new) (refusal_line fault)) }
+{
     writeln!(out, "refused {fault}")
 }
 
-// The settled board of a sheet, which is read into the table.
-pub fn settled(table: &mut Table, text: &[u8]) -> Result<Settled<Pile>, BenchFault> {
+// The settled board of a sheet, which is read into the table; or why there is none.
+pub fn settled(table: &mut Table, text: &[u8]) -> Result<Settled<Pile>, BenchFault>
+    ensures holds { table.new ≡ table_after table.old (verdict text.now) }
+    ensures settles { SettlesTo ⟦<Pile as Approximator>⟧ (verdict text.now) result }
+{
     read(table, text)?;
     let pile = Joined::new(RuleProgram::of(table, Bound), Framework::of(table));
     Ok(Board::new(pile).settle()?)
 }
 
-fn write_answer<W: Write>(out: &mut W, text: &[u8]) -> io::Result<()> {
+// Writes the whole answer to a sheet: a text has one only.
+pub fn write_answer<W: Write>(out: &mut W, text: &[u8]) -> io::Result<()>
+    ensures right { OnOk result (AppendsSome (IsAnswer text.now) (W.contents out.old) (W.contents out.new)) }
+    ensures one { HasOneAnswer text.now }
+{
     let mut table = Table::fresh();
     match settled(&mut table, text) {
         Ok(board) => Sheet {
@@ -100,9 +179,20 @@ fn write_answer<W: Write>(out: &mut W, text: &[u8]) -> io::Result<()> {
     }
 }
 
+// The whole answer to a sheet.
+pub fn answer(alloc: Global, text: &[u8]) -> io::Result<Vec<u8>>
+    ensures right { IfOk result (λ bytes. IsAnswer text.now bytes.items) }
+    ensures one { HasOneAnswer text.now }
+{
+    let mut bytes = Vec::new(alloc);
+    write_answer(&mut bytes, text)?;
+    Ok(bytes)
+}
+
 // Prints the whole answer to a sheet.
 pub fn print_answer<R: Print + AllocGlobal>(rt: &R, text: &[u8]) -> io::Result<()> {
-    let mut out = BufWriter::new(rt.alloc(), io::writer(rt))?;
-    write_answer(&mut out, text)?;
+    let bytes = answer(rt.alloc(), text)?;
+    let mut out = io::writer(rt);
+    out.write_all(&bytes)?;
     out.flush()
 }

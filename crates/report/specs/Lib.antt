@@ -1,0 +1,4 @@
+pub mod Sheets
+pub mod Lines
+pub mod Answers
+pub mod Handing
