@@ -1,0 +1,4 @@
+pub mod Names
+pub mod Texts
+pub mod Desk
+pub mod Commands

@@ -1,0 +1,3 @@
+mod Counting
+mod Keeping
+mod Listed
