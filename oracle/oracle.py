@@ -30,6 +30,7 @@ class Refused(Exception):
 
     def __init__(self, number, line, column):
         layer = "text" if number <= 4 else "sheet" if number <= 11 else "bench"
+        self.number, self.line, self.column = number, line, column
         super().__init__(f"refused {number} {layer} {line} {column}")
 
 
