@@ -8,7 +8,8 @@ use atoms::Bounds;
 use tables::table::Aggregate;
 
 // The meaning is `sure` and `may`; both take a lower and an upper interpretation. The laws speak of bounds, never of a
-// lower that is not within its upper.
+// lower that is not within its upper. The aggregate and the bounds stay two arguments, here and below: the one lies in a table
+// and the others come with the question, so that a pair of them would be made for each call and taken apart in it.
 pub trait Reading {
     ghost sure: { Self → Aggregate → ℕ → ℕ → Bool };
 

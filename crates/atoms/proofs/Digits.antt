@@ -1,5 +1,5 @@
 -- The digits of sets, of unions, intersections and complements, and that sets with the same atoms are equal.
-use Rattle.std.proofs.Common.{◌≡◌, ℕ, zero, suc, ◌+◌, ◌-◌, ◌/◌, ◌%◌, ◌^◌, ◌<◌, ◌≤◌, ◌⊎◌, sym, refl, ap, ◌∙◌, ap₂, inl, inr, lt_of_lt_of_le, mod-lt, mod-eq_of_lt, zero-lt-suc, pow-suc, one-add, arith, pow_pos, pow_mono, pow-add, shr-shr}
+use Rattle.std.proofs.Common.{◌≡◌, ℕ, zero, suc, ◌+◌, ◌-◌, ◌/◌, ◌%◌, ◌^◌, ◌<◌, ◌≤◌, ◌⊎◌, min, sym, refl, ap, ◌∙◌, ap₂, inl, inr, lt_of_lt_of_le, mod-lt, mod-eq_of_lt, zero-lt-suc, pow-suc, one-add, arith, pow_pos, pow_mono, pow-add, shr-shr}
 use native.Mathlib.Nat.{mul-mod_right, div-eq_of_lt}
 use lib.Arith.{bin_ind}
 use lib.Bits.{bit_and, bit_or, bit_xor, and_shr, or_shr, xor_shr, and_mod, or_mod, xor_mod}
@@ -174,3 +174,12 @@ pub pow_mod_zero : (w i : ℕ) → w ≤ i → 2 ^ i % 2 ^ w ≡ 0
 pow_mod_zero w i h =
     let e : i ≡ w + (i - w) = omega arith in
     ap (λ (x : ℕ). 2 ^ x % 2 ^ w) e ∙ ap (λ (x : ℕ). x % 2 ^ w) (pow-add 2 w (i - w)) ∙ mul-mod_right (2 ^ w) (2 ^ (i - w))
+
+-- a set of 64 atoms has no more below a width than below the least of that and 64
+pub mod_min : (s w : ℕ) → s < 2 ^ 64 → s % 2 ^ min w 64 ≡ s % 2 ^ w
+mod_min s w small = elim (cases_lt w 64) [
+  | inl h ↦ let e : min w 64 ≡ w = omega arith in ap (λ (k : ℕ). s % 2 ^ k) e
+  | inr h ↦
+      let e : min w 64 ≡ 64 = omega arith in
+      ap (λ (k : ℕ). s % 2 ^ k) e ∙ mod-eq_of_lt small ∙ sym (mod-eq_of_lt (lt_of_lt_of_le small (pow_mono h)))
+]

@@ -1,5 +1,5 @@
 -- Sets of atoms as numbers: atom i is in s where the binary digit i of s is one.
-use Rattle.std.specs.Prelude.{◌≡◌, ℕ, zero, suc, ◌+◌, ◌-◌, ◌/◌, ◌%◌, ◌^◌, ◌<◌, Bool, cond, ◌==◌, bit_and, bit_or}
+use Rattle.std.specs.Prelude.{◌≡◌, ℕ, zero, suc, ◌+◌, ◌-◌, ◌/◌, ◌%◌, ◌^◌, ◌<◌, min, max, Bool, cond, ◌==◌, bit_and, bit_or}
 
 -- the digit of s at i: one where atom i is in s, zero where it is not
 abbrev pub digit : ℕ → ℕ → ℕ
@@ -20,6 +20,10 @@ pub record Within (a b : ℕ) : Type 0 where
 -- no atom is in both
 abbrev pub Apart : ℕ → ℕ → Type 0
 Apart a b = (i : ℕ) → Has a i → Has b i → ⊥
+
+-- a number as a width: from 1 to 64
+abbrev pub width_read : ℕ → ℕ
+width_read w = max 1 (min 64 w)
 
 -- the set of every atom below a width
 abbrev pub all_below : ℕ → ℕ

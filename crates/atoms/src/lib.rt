@@ -8,4 +8,4 @@ mod set;
 
 pub use bounds::{Bounds, State};
 pub use order::comes_before;
-pub use set::{Interpretation, full, has, lowest, only, those, within};
+pub use set::{Interpretation, clipped, full, has, lowest, only, those, width_read, within};

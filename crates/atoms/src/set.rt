@@ -1,6 +1,6 @@
 // Sets of atoms: atom i is in a set where its binary digit i is one.
 ghost use Rattle.std.specs.Prelude.{◌≡◌, ℕ, ◌-◌, ◌%◌, ◌^◌, ◌<◌, min, Decides, MatchOption};
-ghost use Rattle.atoms.specs.Sets.{has, Within, Lowest, all_below, clipped};
+ghost use Rattle.atoms.specs.Sets.{has, Within, Lowest, width_read, all_below, clipped};
 
 // A set of atoms: those that are on.
 pub type Interpretation = u64;
@@ -19,6 +19,13 @@ pub fn within(a: Interpretation, b: Interpretation) -> bool
     a & b == a
 }
 
+// A number as a width: 1 if it is less, and 64 if it is more.
+pub fn width_read(number: u8) -> u8
+    ensures { result ≡ width_read number }
+{
+    number.clamp(1, 64)
+}
+
 // Every atom below the width.
 pub fn full(width: u8) -> Interpretation
     ensures { result ≡ all_below (min width 64) }
@@ -28,6 +35,13 @@ pub fn full(width: u8) -> Interpretation
     } else {
         (1 << width) - 1
     }
+}
+
+// The atoms of the set that are below the width.
+pub fn clipped(set: Interpretation, width: u8) -> Interpretation
+    ensures { result ≡ clipped width set }
+{
+    set & full(width)
 }
 
 // The atom alone; there are 64 atoms, so any other gives the empty set.

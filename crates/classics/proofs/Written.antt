@@ -1,6 +1,7 @@
 -- The rules that an accepted text writes name marks below the width only.
 use Rattle.std.proofs.Common.{◌≡◌, ℕ, List, [], ◌∷◌, map, length, sym, ap, ◌∙◌, subst, inl, inr, arith}
 use Rattle.std.specs.List.{AllByRecursion}
+use Rattle.atoms.specs.Sets.{width_read}
 use Rattle.tables.specs.declared.table.Item.{Item}
 use Rattle.tables.specs.declared.table.Item.TheVariants.{Atom, NotAtom, Aggregate}
 use Rattle.tables.specs.declared.table.Rule.{Rule}
@@ -8,7 +9,7 @@ use Rattle.tables.specs.Tables.{zero_item, zero_rule}
 use Rattle.tables.proofs.Laid.{in_use_laid}
 use Rattle.programs.specs.Clauses.{Among, items_of}
 use Rattle.programs.specs.Normal.{NormalItem, NormalRule, NormalSheet}
-use Rattle.programs.specs.Tables.{rules_of, width_read}
+use Rattle.programs.specs.Tables.{rules_of}
 use Rattle.programs.proofs.Naming.{table_normal}
 use Rattle.written.specs.Sheets.{RuleLine, Sheet, LawfulItem, LawfulRule}
 use Rattle.written.specs.Writing.{rule_row}

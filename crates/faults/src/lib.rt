@@ -25,7 +25,7 @@ pub enum Layer {
     Bench,
 }
 
-// What is told of a fault.
+// What is told of a fault. The number is the one that the format prints and keepers look up; which fault it is, is an enum.
 #[derive(Clone, Copy, Debug, PartialEq, Eq)]
 pub struct Told {
     pub number: u8,

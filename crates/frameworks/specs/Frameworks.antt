@@ -1,12 +1,12 @@
 -- What a framework says on bounds.
-use Rattle.std.specs.Prelude.{ℕ, min, max}
-use Rattle.atoms.specs.Sets.{clipped}
+use Rattle.std.specs.Prelude.{ℕ}
+use Rattle.atoms.specs.Sets.{width_read, clipped}
 use Rattle.frameworks.specs.declared.framework.Framework.{Framework}
 use Rattle.frameworks.specs.Lines.{unattacked}
 
 -- the width, from 1 to 64
 abbrev pub width_of : Framework → ℕ
-width_of f = max 1 (min 64 f.width)
+width_of f = width_read f.width
 
 -- sure has each atom with a line none of whose attackers is in the upper
 abbrev pub sure_of : Framework → ℕ → ℕ → ℕ

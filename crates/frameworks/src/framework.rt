@@ -1,12 +1,11 @@
 // A framework: a table of relay lines over so many atoms.
 ghost use Rattle.std.specs.Prelude.{◌≡◌};
-ghost use Rattle.atoms.specs.Sets.{clipped};
 ghost use Rattle.frameworks.specs.Frameworks.{width_of, sure_of, may_of};
 ghost use Rattle.frameworks.specs.Standing.{framework_laws};
 
 use super::table::RelayTable;
 use approx::Approximator;
-use atoms::{Bounds, Interpretation, full};
+use atoms::{Bounds, Interpretation, clipped, width_read};
 
 #[derive(Clone, Copy)]
 pub struct Framework {
@@ -16,19 +15,12 @@ pub struct Framework {
 
 impl Framework {
     // A framework of these lines. Its width is taken as 1 if it is less, and as 64 if it is more.
+    // Like `new` of a cut-out and of a program it says what its own fields are; the three have nothing else in common.
     pub fn new(width: u8, table: RelayTable) -> Framework
         ensures same_width { result.width ≡ width }
         ensures same_table { result.table ≡ table }
     {
         Framework { width, table }
-    }
-
-    // The atoms below the width: one operator, for which no function that all crates share is plainer.
-    #[tactic(auto, using(std::proofs::lemmas::Nat::and_mask))]
-    fn below(&self, set: Interpretation) -> Interpretation
-        ensures { result ≡ clipped (width_of self.now) set }
-    {
-        set & full(self.width())
     }
 }
 
@@ -42,16 +34,16 @@ impl Approximator for Framework {
     ghost laws = { framework_laws };
 
     fn width(&self) -> u8 {
-        self.width.clamp(1, 64)
+        width_read(self.width)
     }
 
     fn sure(&self, bounds: Bounds) -> Interpretation {
-        self.table
-            .unattacked(self.width(), self.below(bounds.upper))
+        let width = self.width();
+        self.table.unattacked(width, clipped(bounds.upper, width))
     }
 
     fn may(&self, bounds: Bounds) -> Interpretation {
-        self.table
-            .unattacked(self.width(), self.below(bounds.lower))
+        let width = self.width();
+        self.table.unattacked(width, clipped(bounds.lower, width))
     }
 }

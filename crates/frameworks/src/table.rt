@@ -5,10 +5,19 @@ ghost use Rattle.frameworks.specs.Lines.{no_lines, with_line, stands, unattacked
 
 use atoms::{Interpretation, those};
 
-// For each atom the set of its attackers, if it has a line.
+// For each atom the set of its attackers, if it has a line. No table shared with the triggers of a cut-out: there every atom has a
+// row, and a row is held against a set the other way round.
 #[derive(Clone, Copy)]
 pub struct RelayTable {
     lines: [Option<Interpretation>; 64],
+}
+
+impl Default for RelayTable {
+    ghost is_default = { λ table. table ≡ no_lines };
+
+    fn default() -> RelayTable {
+        RelayTable::new()
+    }
 }
 
 impl RelayTable {

@@ -7,7 +7,7 @@ ghost use Rattle.layers.specs.Cutting.{cut_out_lawful};
 
 use super::triggers::TriggerTable;
 use approx::Approximator;
-use atoms::{Bounds, Interpretation, full};
+use atoms::{Bounds, Interpretation, clipped};
 
 // What the pile below answers, without the atoms that are tripped. The width stays.
 #[derive(Drop)]
@@ -17,7 +17,7 @@ pub struct CutOut<A> {
 }
 
 impl<A: Approximator> CutOut<A> {
-    // The pile under these triggers.
+    // The pile under these triggers. The clauses say what its own fields are, as those of a framework and of a program do.
     pub fn new(pile: A, table: TriggerTable) -> CutOut<A>
         ensures same_pile { result.pile ≡ pile }
         ensures same_table { result.table ≡ table }
@@ -30,7 +30,7 @@ impl<A: Approximator> CutOut<A> {
         ensures { result ≡ dropped self.now.table (meaning A.Approximator self.now.pile).width by }
     {
         let width = self.pile.width();
-        self.table.tripped(width, by & full(width))
+        self.table.tripped(width, clipped(by, width))
     }
 }
 

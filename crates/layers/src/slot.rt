@@ -3,7 +3,7 @@ ghost use Rattle.std.specs.Prelude.{◌≡◌, ℕ, ◌<◌, ◌≤◌};
 ghost use Rattle.atoms.specs.Sets.{Within, clipped};
 ghost use Rattle.layers.specs.Shifts.{lowered, raised};
 
-use atoms::{Bounds, Interpretation, full};
+use atoms::{Bounds, Interpretation, clipped};
 
 // From a first place up to a width. There is room for an atom, and none lies past the 64.
 #[derive(Clone, Copy)]
@@ -33,11 +33,10 @@ impl Slot {
     }
 
     // The atoms of the slot, moved down to begin at 0.
-    #[tactic(auto, using(std::proofs::lemmas::Nat::and_mask))]
     fn lowered(self, set: Interpretation) -> Interpretation
         ensures { result ≡ lowered self.first self.width set }
     {
-        (set & full(self.width)) >> self.first
+        clipped(set, self.width) >> self.first
     }
 
     // The question that is put to what lies in the slot. It is crossed below no width, unless the one that came was.
@@ -57,6 +56,6 @@ impl Slot {
     pub(super) fn raised(self, set: Interpretation) -> Interpretation
         ensures { result ≡ raised self.first self.width set }
     {
-        (set << self.first) & full(self.width)
+        clipped(set << self.first, self.width)
     }
 }

@@ -11,6 +11,14 @@ pub struct TriggerTable {
     triggers: [Interpretation; 64],
 }
 
+impl Default for TriggerTable {
+    ghost is_default = { λ table. table ≡ no_triggers };
+
+    fn default() -> TriggerTable {
+        TriggerTable::new()
+    }
+}
+
 impl TriggerTable {
     // A table in which no atom has a trigger.
     pub fn new() -> TriggerTable

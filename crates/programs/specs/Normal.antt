@@ -1,11 +1,12 @@
 -- Rules without aggregates, over the atoms below the width: those that the classical semantics speak of.
 use Rattle.std.specs.Prelude.{◌≡◌, ℕ, ◌^◌, ◌<◌}
+use Rattle.atoms.specs.Sets.{width_read}
 use Rattle.tables.specs.declared.table.Item.{Item}
 use Rattle.tables.specs.declared.table.Item.TheVariants.{Atom, NotAtom, Aggregate}
 use Rattle.tables.specs.declared.table.Rule.{Rule}
 use Rattle.tables.specs.declared.table.Table.{Table}
 use Rattle.programs.specs.Clauses.{Among, items_of}
-use Rattle.programs.specs.Tables.{width_read, width_of, rules_of, clauses_of}
+use Rattle.programs.specs.Tables.{width_of, rules_of, clauses_of}
 use Rattle.programs.specs.declared.clause.Clause.{Clause}
 use Rattle.programs.specs.declared.rules.RuleTable.{RuleTable}
 

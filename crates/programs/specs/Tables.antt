@@ -1,5 +1,6 @@
 -- The rules of a sheet as sets, with its aggregates.
-use Rattle.std.specs.Prelude.{ℕ, min, max, List, [], map, take}
+use Rattle.std.specs.Prelude.{ℕ, List, [], map, take}
+use Rattle.atoms.specs.Sets.{width_read}
 use Rattle.tables.specs.Rows.{laid, in_use}
 use Rattle.tables.specs.declared.rows.Rows.{Rows}
 use Rattle.tables.specs.declared.table.Aggregate.{Aggregate}
@@ -32,10 +33,6 @@ clauses_of t = in_use 128 t.clauses
 -- the aggregates of a rule table that are in use, at most 32
 abbrev pub aggregates_of : RuleTable → List Aggregate
 aggregates_of t = take 32 (in_use 32 t.aggregates)
-
--- a width as it is read: from 1 to 64
-abbrev pub width_read : ℕ → ℕ
-width_read w = max 1 (min 64 w)
 
 -- the width of a rule table
 abbrev pub width_of : RuleTable → ℕ

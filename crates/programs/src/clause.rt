@@ -5,7 +5,7 @@ ghost use Rattle.programs.specs.Clauses.{gathered, with_item, clause_of, Says};
 ghost use Rattle.programs.specs.Deriving.{fires, gives};
 ghost use Rattle.programs.specs.Reducts.{spares, unbarred};
 
-use atoms::{Interpretation, only};
+use atoms::{Interpretation, clipped, only};
 use tables::table::{Item, Rule};
 
 // The head follows where every needed atom is on, no barred atom is, and each aggregate whose number is in the set holds.
@@ -27,11 +27,10 @@ pub struct Grounds {
 }
 
 // The set of the one number; there are 32 aggregates, so any other gives the empty set.
-// One function for this and `only` would need a trait over the integers, and be no plainer.
 fn number_alone(number: u8) -> u32
     ensures { result ≡ clipped 32 (2 ^ number) }
 {
-    if number < 32 { 1 << number } else { 0 }
+    clipped(only(number), 32) as u32
 }
 
 impl Clause {

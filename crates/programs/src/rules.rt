@@ -1,7 +1,7 @@
 // The rules of a sheet as sets, with its aggregates.
 ghost use Rattle.std.specs.Prelude.{◌≡◌, ℕ, ◌^◌, ◌<◌, ◌≤◌, Bool, length, slice_index_or};
 ghost use Rattle.std.specs.Fn.{FnReturnsAt};
-ghost use Rattle.atoms.specs.Sets.{has, clipped};
+ghost use Rattle.atoms.specs.Sets.{has};
 ghost use Rattle.tables.specs.Rows.{in_use};
 ghost use Rattle.tables.specs.Tables.{zero_aggregate};
 ghost use Rattle.tables.specs.declared.table.Aggregate.{Aggregate};
@@ -13,7 +13,7 @@ ghost use Rattle.programs.specs.Reducts.{reduct_rows, reduced};
 ghost use Rattle.programs.specs.Tables.{clauses_from, rule_table, rules_of, clauses_of, aggregates_of, width_of};
 
 use super::clause::{Clause, Grounds};
-use atoms::{Bounds, Interpretation, full};
+use atoms::{Bounds, Interpretation, clipped, those, width_read};
 use tables::rows::Rows;
 use tables::table::{Aggregate, Rule, Table};
 
@@ -49,20 +49,16 @@ fn reduct_rows(clauses: &Rows<Clause, 128>, z: Interpretation) -> Rows<Clause, 1
     reduct
 }
 
-// The numbers of the aggregates that pass: each is judged once for a question.
+// The numbers of the aggregates that pass: each is judged once for a question. There are 32 at most, so the cast loses none.
 fn passing<F: Fn(&Aggregate) -> bool>(aggregates: &[Aggregate], passes: F) -> u32
     requires few { length aggregates.now ≤ 32 }
     requires callable { F.IsAlwaysCallable passes }
     ensures below { result < 2 ^ length aggregates.now }
     ensures has { (n : ℕ) → n < length aggregates.now → FnReturnsAt F.Fn passes (slice_index_or aggregates.now n zero_aggregate) (has result n) }
 {
-    let mut numbers = 0;
-    for (number, aggregate) in aggregates.iter().enumerate() {
-        if passes(aggregate) {
-            numbers |= 1 << number;
-        }
-    }
-    numbers
+    those(aggregates.len() as u8, |number| {
+        passes(&aggregates[usize::from(number)])
+    }) as u32
 }
 
 impl RuleTable {
@@ -84,24 +80,17 @@ impl RuleTable {
     pub fn atom_count(&self) -> u8
         ensures { result ≡ width_of self.now }
     {
-        self.width.clamp(1, 64)
-    }
-
-    // The atoms of the set below the width. One operator, as in every crate that does the same: no function for all is plainer.
-    #[tactic(auto, using(std::proofs::lemmas::Nat::and_mask))]
-    fn clipped(&self, set: Interpretation) -> Interpretation
-        ensures { result ≡ clipped (width_of self.now) set }
-    {
-        set & full(self.atom_count())
+        width_read(self.width)
     }
 
     // The bounds without the atoms at or above the width.
     pub(super) fn below(&self, bounds: Bounds) -> Bounds
         ensures { result ≡ below_width self.now bounds }
     {
+        let width = self.atom_count();
         Bounds {
-            lower: self.clipped(bounds.lower),
-            upper: self.clipped(bounds.upper),
+            lower: clipped(bounds.lower, width),
+            upper: clipped(bounds.upper, width),
         }
     }
 
@@ -114,7 +103,7 @@ impl RuleTable {
             .as_slice()
             .iter()
             .fold(0, |heads, clause| heads | clause.share(grounds));
-        self.clipped(heads)
+        clipped(heads, self.atom_count())
     }
 
     // The heads below the width of the rules that fire on these atoms and the aggregates that pass.

@@ -59,11 +59,10 @@ impl<T: Copy, const N: usize> Rows<T, N> {
         ensures answers { is_ok result ≡ has_room N self.old }
         ensures holds { self.new ≡ pushed N self.old item }
     {
-        let count = self.count as usize;
-        if count >= N || self.count == u8::MAX {
+        if !self.has_room() {
             return Err(NoRoom);
         }
-        self.items[count] = item;
+        self.items[self.count as usize] = item;
         self.count += 1;
         Ok(())
     }

@@ -167,6 +167,14 @@ impl RelayLine {
     }
 }
 
+impl Default for Table {
+    ghost is_default = { λ table. table ≡ table_of 1 [] [] [] [] };
+
+    fn default() -> Table {
+        Table::fresh()
+    }
+}
+
 impl Table {
     // The table of no sheet: one atom, and nothing else.
     pub fn fresh() -> Table

@@ -1,11 +1,8 @@
 use Rattle.std.proofs.Common.{◌≡◌, ℕ, ◌+◌, ◌<◌, min, sym, subst, arith}
-use Rattle.atoms.proofs.Judging.{Judged, judged_none, judged_in, judged_out}
+use Rattle.atoms.proofs.Judging.{Judged, judged_in, judged_out}
 use Rattle.atoms.proofs.set.those.Given as given
 use Rattle.atoms.proofs.set.those.Goals as goal
 use Rattle.atoms.proofs.set.those.Goals.{then-holds, else-holds}
-
-pub loop-atom-init : goal.loop-atom-init
-loop-atom-init g c = judged_none (given.F-post g c.args.holds)
 
 pub loop-atom-preserved : goal.loop-atom-preserved
 loop-atom-preserved g c =
@@ -20,9 +17,6 @@ whole : (g : given.Over) (c : goal.After-drop-holds g) → Judged (given.F-post 
 whole g c =
     let end : c.loop-atom.atom ≡ min c.args.width 64 = omega (arith, c.loop-atom-test.false, c.loop-atom.auto.atom-end, c.min-atom-end.ensures) in
     subst (λ (n : ℕ). Judged (given.F-post g c.args.holds) n c.loop-atom.set) end c.loop-atom.invariant
-
-pub returns-clause-below : goal.returns-clause-below
-returns-clause-below g c = (whole g c).below
 
 pub returns-clause-has : goal.returns-clause-has
 returns-clause-has g c = (whole g c).has
