@@ -1,7 +1,7 @@
 -- A name line: one name, lawful and not given before.
 use Rattle.std.specs.Prelude.{ℕ, min, List, length, take, Some, None, Ok, Err, Option, Result}
 use Rattle.tables.specs.declared.table.Place.{Place}
-use Rattle.text.specs.Names.{names_of, atom_among}
+use Rattle.text.specs.Names.{parts, atom_among}
 use Rattle.text.specs.Words.{Meaning, name_said}
 use Rattle.grammar.specs.declared.names.Names.{Names}
 use Rattle.grammar.specs.declared.name.NameState.{NameState}
@@ -9,9 +9,9 @@ use Rattle.grammar.specs.declared.name.NameState.TheVariants as name
 use Rattle.grammar.specs.declared.wrong.Wrong.{Wrong}
 use Rattle.grammar.specs.declared.wrong.Wrong.TheVariants as wrong
 
--- The names of the atoms: those that stand at the first 64 places of a text.
-abbrev pub known : Names → List (List ℕ)
-known names = names_of names.text.now (take 64 names.places.now)
+-- The names of the atoms: the first 64 that were cut out of a text.
+unfoldable pub known : Names → List (List ℕ)
+known names = parts (take 64 names.names.now)
 
 -- The place of a name that begins at a position of the text; a name has at most 16 bytes, and a place can tell up to 255.
 abbrev pub place_at : ℕ → List ℕ → Place

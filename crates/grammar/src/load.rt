@@ -76,7 +76,7 @@ impl LoadLine<'_> {
         if word.key() == Some(Key::Not) {
             return Ok(LoadState::Negated(aggregate, weight));
         }
-        let atom = self.names.atom(word).ok_or(Wrong::NotAName)?;
+        let atom = self.names.wanted(word)?;
         Ok(LoadState::Entries(with_entry(aggregate, weight, atom, false)))
     }
 
@@ -132,7 +132,7 @@ impl LineKind for LoadLine<'_> {
                 self.begin_condition(aggregate, weight, word)
             }
             LoadState::Negated(aggregate, weight) => {
-                let atom = self.names.atom(word).ok_or(Wrong::NotAName)?;
+                let atom = self.names.wanted(word)?;
                 Ok(LoadState::Entries(with_entry(aggregate, weight, atom, true)))
             }
         }

@@ -12,7 +12,7 @@ use tables::table::Place;
 use text::names::atom_of;
 use text::word::Word;
 
-// A state like those of the other kinds of line, and no `Option`: at the start nothing is missing yet.
+// A state like those of the other kinds of line, and no `Option`, which would say less: here, too, a word moves the state on.
 #[derive(Clone, Copy)]
 pub enum NameState {
     Start,

@@ -58,7 +58,7 @@ impl LineKind for RelayRow<'_> {
     ) -> Result<RelayState, Wrong> {
         match state {
             RelayState::Start => {
-                let atom = self.names.atom(word).ok_or(Wrong::NotAName)?;
+                let atom = self.names.wanted(word)?;
                 if has_line(atom, at.above) {
                     return Err(Wrong::SecondLine);
                 }
@@ -68,7 +68,7 @@ impl LineKind for RelayRow<'_> {
                 Ok(RelayState::Attackers(RelayLine::new(atom)))
             }
             RelayState::Attackers(line) if line.attackers.has_room() => {
-                let atom = self.names.atom(word).ok_or(Wrong::NotAName)?;
+                let atom = self.names.wanted(word)?;
                 Ok(RelayState::Attackers(RelayLine {
                     attackers: with_item(line.attackers, atom),
                     ..line

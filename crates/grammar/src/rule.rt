@@ -48,7 +48,7 @@ impl RuleLine<'_> {
             Some(Key::Not) => Ok(RuleState::Negated(rule)),
             Some(Key::Load) => Ok(RuleState::Loaded(rule)),
             _ => {
-                let atom = self.names.atom(word).ok_or(Wrong::NotAName)?;
+                let atom = self.names.wanted(word)?;
                 Ok(RuleState::Items(with_item(rule, Item::Atom(atom))))
             }
         }
@@ -76,7 +76,7 @@ impl LineKind for RuleLine<'_> {
         let RuleLine { names, loads } = *self;
         match state {
             RuleState::Start => {
-                let head = names.atom(word).ok_or(Wrong::NotAName)?;
+                let head = names.wanted(word)?;
                 Ok(RuleState::Headed(head))
             }
             RuleState::Headed(head) if word.key() == Some(Key::If) => {
@@ -85,7 +85,7 @@ impl LineKind for RuleLine<'_> {
             RuleState::Items(rule) if rule.items.has_room() => self.begin_item(rule, word),
             RuleState::Headed(_) | RuleState::Items(_) => Err(Wrong::Misplaced),
             RuleState::Negated(rule) => {
-                let atom = names.atom(word).ok_or(Wrong::NotAName)?;
+                let atom = names.wanted(word)?;
                 Ok(RuleState::Items(with_item(rule, Item::NotAtom(atom))))
             }
             RuleState::Loaded(rule) => {

@@ -48,7 +48,10 @@ impl Contents {
     pub(super) fn announced(self) -> u32
         ensures { result ≡ announced_in self }
     {
-        4 + self.marks as u32 + self.loads as u32 + self.rules as u32 + self.relays as u32
+        4 + u32::from(self.marks)
+            + u32::from(self.loads)
+            + u32::from(self.rules)
+            + u32::from(self.relays)
     }
 }
 

@@ -15,6 +15,7 @@ use grammar::{LoadLine, NameLine, Names, RelayRow, RuleLine};
 use tables::rows::Rows;
 use tables::table::{Aggregate, Place, RelayLine, Rule, Table};
 use text::check::check_text;
+use text::names::names_at;
 use text::reader::Reader;
 
 // How many lines a text has that breaks no law of the text, so that it ends with a newline.
@@ -38,10 +39,10 @@ fn read_rest(
     requires named { names ≡ laid 64 zero_place (in_use 64 names) }
     ensures { result ≡ rest_read text.now (counts_in contents) (in_use 64 names) (lines_left reader.old) }
 {
-    let known = Names {
-        text,
-        places: names.as_slice(),
-    };
+    let places = names.as_slice();
+    let cut = names_at(text, places);
+    let parts = cut.as_slice();
+    let known = Names { names: parts };
     let load = LoadLine { names: known };
     let rule = RuleLine {
         names: known,
@@ -97,6 +98,8 @@ fn read_into(table: &mut Table, text: &[u8]) -> Result<(), SheetFault>
 
 // Reads a sheet into the table: accepted exactly where the text writes a lawful sheet, and refused with what is wrong
 // first. A refused sheet leaves the table as it was.
+// `read_into` stands apart, since the third clause follows from the first two whatever the way out: here it is proved once,
+// and not at each way out.
 pub fn read(table: &mut Table, text: &[u8]) -> Result<(), SheetFault>
     ensures answers { result ≡ answer (verdict text.now) }
     ensures holds { table.new ≡ table_after table.old (verdict text.now) }

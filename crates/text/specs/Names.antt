@@ -1,5 +1,6 @@
 -- The names of a sheet's atoms, by their places in the text.
 use Rattle.std.specs.Prelude.{ℕ, ◌+◌, cond, List, [], ◌∷◌, map, length, take, drop, Some, None, Option, nat_le}
+use Rattle.std.specs.Borrow.{Bor}
 use Rattle.std.specs.Str.{bytes_eq}
 use Rattle.tables.specs.declared.table.Place.{Place}
 
@@ -19,3 +20,7 @@ atom_among number (name ∷ names) word = cond (bytes_eq name word) (Some number
 -- The atom that a word names, among the first 64 places: a sheet has no more atoms.
 abbrev pub atom_named : List ℕ → List Place → List ℕ → Option ℕ
 atom_named text places word = atom_among 0 (names_of text (take 64 places)) word
+
+-- The parts that references stand for.
+abbrev pub parts : List (Bor (List ℕ)) → List (List ℕ)
+parts names = map (λ name. name.now) names

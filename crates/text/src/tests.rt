@@ -1,6 +1,6 @@
 // Examples: each refusal of the text layer, words and numbers at their limits, and the spots of words.
 use super::check::check_text;
-use super::names::atom_of;
+use super::names::{atom_of, named, names_at};
 use super::reader::{Piece, Reader};
 use super::word::{Key, word_of};
 use faults::{Spot, TextFault};
@@ -118,4 +118,12 @@ fn finds_atoms(rt: HostRuntime) {
     let places = [Place { from: 0, len: 1 }, Place { from: 2, len: 2 }];
     assert_eq!(rt; atom_of(text, &places, b"bc"), Some(1));
     assert_eq!(rt; atom_of(text, &places, b"b"), None);
+}
+
+#[test]
+fn finds_names(rt: HostRuntime) {
+    let places = [Place { from: 0, len: 1 }, Place { from: 2, len: 2 }];
+    let names = names_at(b"a\nbc\n", &places);
+    assert_eq!(rt; named(names.as_slice(), b"bc"), Some(1));
+    assert_eq!(rt; named(names.as_slice(), b"b"), None);
 }

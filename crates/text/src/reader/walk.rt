@@ -51,7 +51,8 @@ impl<'a> Reader<'a> {
     }
 
     // The next line; past the end an empty one, again with the last number.
-    // No `Option`: each section reads as many lines as were counted before, and would have to refuse a want that cannot be.
+    // No `Option`: a section reads as many lines as were counted before, and would have to refuse a want that cannot be. The contents,
+    // whose lines are not counted yet, ask `has_line`.
     pub fn line(&mut self) -> Line<'a>
         ensures gives { as_line result ≡ slice_index_or (lines_left self.old) 0 (no_line self.old) }
         ensures fresh { result.position ≡ 0 }
