@@ -2,10 +2,11 @@
 // implementation, in oracle/. A case is its length in decimal, a newline, and so many bytes.
 #![tactic(auto)]
 
-use report::print_answer;
+use report::answer;
+use std::io::{BufWriter, Write};
 use std::{fs, io};
 
-// No more cases than this are read: a count, since that the rest grows shorter is not said of a case.
+// No more cases than this are read. The cases are counted since each is told with its number, and so the loop ends.
 const MOST: u32 = 1000000;
 
 // The first sheet of the data, and what follows it.
@@ -17,14 +18,16 @@ fn next_case(data: &[u8]) -> Option<(&[u8], &[u8])> {
 
 fn main(rt: HostRuntime) -> io::Result<()> {
     let data = fs::read(&rt, "cases.bin")?;
+    let mut out = BufWriter::new(rt.alloc(), io::writer(&rt))?;
     let mut rest = data.as_slice();
     for number in 1..MOST {
         let Some((sheet, after)) = next_case(rest) else {
             break;
         };
-        println!(rt; "case {number}")?;
-        print_answer(&rt, sheet)?;
+        let bytes = answer(rt.alloc(), sheet)?;
+        writeln!(out, "case {number}")?;
+        out.write_all(&bytes)?;
         rest = after;
     }
-    Ok(())
+    out.flush()
 }

@@ -1,5 +1,5 @@
 -- What each call does to the history behind a listing.
-use Rattle.std.proofs.Common.{◌≡◌, ℕ, ◌≤◌, Bool, true, false, cond, ◌||◌, ltb, [], ◌∷◌, Some, None, Ok, Err, Option, sym, ap, ◌∙◌, ap₂}
+use Rattle.std.proofs.Common.{◌≡◌, ℕ, ◌≤◌, Bool, true, false, cond, ◌||◌, ltb, List, [], ◌∷◌, Some, None, Ok, Err, Option, sym, ap, ◌∙◌, ap₂}
 use Rattle.std.proofs.lemmas.Bool.{ne_eqb}
 use Rattle.atoms.specs.Sets.{digit, has}
 use Rattle.atoms.specs.Bounded.{Between, open_count}
@@ -10,11 +10,11 @@ use Rattle.approx.specs.Settling.{Settles}
 use Rattle.approx.specs.declared.approximator.Approximator.{Ghosts}
 use Rattle.approx.proofs.Laws.{Lawful as KeepsLaws}
 use Rattle.approx.proofs.Steadiness.{stable_between}
-use Rattle.solver.specs.Lists.{Counted}
+use Rattle.solver.specs.Lists.{Counted, Gathered}
 use Rattle.solver.specs.Pegs.{Wanted}
 use Rattle.solver.specs.Search.{FirstAfter, Sought}
 use Rattle.solver.specs.Fronts.{Front}
-use Rattle.solver.proofs.Alikeness.{Alike, none_alike, first_alike, counted_alike}
+use Rattle.solver.proofs.Alikeness.{Alike, none_alike, first_alike, counted_alike, gathered_alike}
 use Rattle.solver.proofs.Handing.{front_begins, front_hands, front_short, front_whole}
 use Rattle.faults.specs.declared.BenchFault.{BenchFault}
 use Rattle.faults.specs.declared.BenchFault.TheVariants as fault
@@ -81,6 +81,9 @@ module _ {X : Type 0} (G : Ghosts X) where
 
       pub tally_ran : (n : ℕ) → Counted (Wanted (meaning G x.pile) x.pegs.on x.pegs.off) n → Ran G (Tally n ∷ h) x
       tally_ran n counted = step (Tally n) x.pegs x.last (counted_alike alike counted) ran.pegs ran.front
+
+      pub standings_ran : {old new : List ℕ} → Gathered (Wanted (meaning G x.pile) x.pegs.on x.pegs.off) old new → Gathered (Agreeing (meaning G x.pile) (in_force h)) old new
+      standings_ran gathered = gathered_alike alike gathered
 
       pub rewind_ran : Ran G (Rewind ∷ h) (begun x x.pegs)
       rewind_ran = step Rewind x.pegs None tt ran.pegs (front_begins (Agreeing (meaning G x.pile) (in_force h)))

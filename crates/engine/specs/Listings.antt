@@ -5,6 +5,7 @@ use Rattle.approx.specs.Meanings.{meaning}
 use Rattle.approx.specs.Settling.{Settles}
 use Rattle.approx.specs.declared.approximator.Approximator.{Ghosts}
 use Rattle.solver.specs.Fronts.{Front}
+use Rattle.solver.specs.Pegs.{Wanted}
 use Rattle.faults.specs.declared.BenchFault.{BenchFault}
 use Rattle.faults.specs.declared.BenchFault.TheVariants.{TooManyOpen, PegsInForce}
 use Rattle.faults.specs.declared.Refused.{Refused}
@@ -75,6 +76,10 @@ pull_event t (Ok u) = event.Pull t.atom t.sense (Ok tt)
 pull_event t (Err e) = event.Pull t.atom t.sense (Err e.fault)
 
 -- ---- the listing and its history
+-- what the listing may hand out: the stable interpretations of its pile that agree with its pegs
+abbrev pub WantedOf : {X : Type 0} → Ghosts X → Listing X → ℕ → Type 0
+WantedOf G x = Wanted (meaning G x.pile) x.pegs.on x.pegs.off
+
 -- the kept bounds are the pile's settled ones, with at most 16 atoms open between them
 pub record Listable {X : Type 0} (G : Ghosts X) (x : Listing X) : Type 0 where
   pub settled : Settles (meaning G x.pile) x.bounds

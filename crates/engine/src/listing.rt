@@ -1,14 +1,14 @@
 // The listing: it hands out the stable interpretations of a settled board that agree with its pegs, one after another.
-ghost use Rattle.std.specs.Prelude.{◌≡◌, [], ◌∷◌, IfOk};
+ghost use Rattle.std.specs.Prelude.{◌≡◌, [], ◌∷◌, IfOk, OnOk, OnErr};
 ghost use Rattle.approx.specs.Meanings.{meaning};
 ghost use Rattle.approx.specs.Settling.{Settles};
-ghost use Rattle.solver.specs.Lists.{Counted};
-ghost use Rattle.solver.specs.Pegs.{Wanted, Pegs as PegsIn};
+ghost use Rattle.solver.specs.Lists.{Counted, Gathered, GatheredFront};
+ghost use Rattle.solver.specs.Pegs.{Pegs as PegsIn};
 ghost use Rattle.solver.specs.Search.{Sought};
 ghost use Rattle.engine.specs.Standing.{standing};
 ghost use Rattle.engine.specs.Rules.{peg_fault, pull_fault};
-ghost use Rattle.engine.specs.Histories.{History};
-ghost use Rattle.engine.specs.Listings.{list_gives, close_gives, begun, moved_on, peg_gives, peg_leaves, pull_gives, pull_leaves, peg_event, pull_event, Listable, Ran};
+ghost use Rattle.engine.specs.Histories.{History, in_force, Agreeing};
+ghost use Rattle.engine.specs.Listings.{list_gives, close_gives, begun, moved_on, peg_gives, peg_leaves, pull_gives, pull_leaves, peg_event, pull_event, WantedOf, Listable, Ran};
 ghost use Rattle.engine.specs.declared.runs.Event.TheVariants.{Next, Rewind, Tally};
 
 use super::board::Settled;
@@ -16,12 +16,15 @@ use super::pegs::{Pegs, Sense};
 use approx::Approximator;
 use atoms::{Bounds, Interpretation};
 use faults::{BenchFault, Refused};
-use solver::{count, first_after, pegged};
+use solver::{count, first_after, gather, pegged};
+use std::alloc::AllocError;
 
 // The most atoms that may be open in a listing.
 const MOST_OPEN: u32 = 16;
 
 // A settled board that is listed: its pegs, and the last interpretation that was handed out since it began.
+// That the kept bounds are the pile's settled ones (`Listable`) is a premise of the calls, and no fact in the type: it is what
+// settling promises, and the clauses of the calls carry it.
 #[derive(Drop)]
 pub struct Listing<A> {
     pile: A,
@@ -92,7 +95,7 @@ impl<A: Approximator> Listing<A> {
 
     // The following stable interpretation that agrees with the pegs, or no more.
     pub fn next(&mut self) -> Option<Interpretation>
-        ensures gives { Listable A.Approximator self.old → Sought (Wanted (meaning A.Approximator self.old.pile) self.old.pegs.on self.old.pegs.off) self.old.last result }
+        ensures gives { Listable A.Approximator self.old → Sought (WantedOf A.Approximator self.old) self.old.last result }
         ensures leaves { self.new ≡ moved_on self.old result }
         ensures law { (h : History) → Ran A.Approximator h self.old → Ran A.Approximator (Next result ∷ h) self.new }
     {
@@ -103,10 +106,20 @@ impl<A: Approximator> Listing<A> {
 
     // How many stable interpretations agree with the pegs.
     pub fn tally(&self) -> u32
-        ensures gives { Listable A.Approximator self.now → Counted (Wanted (meaning A.Approximator self.now.pile) self.now.pegs.on self.now.pegs.off) result }
+        ensures gives { Listable A.Approximator self.now → Counted (WantedOf A.Approximator self.now) result }
         ensures law { (h : History) → Ran A.Approximator h self.now → Ran A.Approximator (Tally result ∷ h) self.now }
     {
         count(&self.pile, self.pegged_bounds())
+    }
+
+    // Puts all stable interpretations that agree with the pegs behind those that the list has, in listing order, whatever was
+    // handed out before; where memory runs short, the first so many are there. One walk is quicker than as many calls of `next`.
+    pub fn standings(&self, found: &mut Vec<Interpretation>) -> Result<(), AllocError>
+        ensures gives { Listable A.Approximator self.now → OnOk result (Gathered (WantedOf A.Approximator self.now) found.old.items found.new.items) }
+        ensures short { Listable A.Approximator self.now → OnErr result (GatheredFront (WantedOf A.Approximator self.now) found.old.items found.new.items) }
+        ensures law { (h : History) → Ran A.Approximator h self.now → OnOk result (Gathered (Agreeing (meaning A.Approximator self.now.pile) (in_force h)) found.old.items found.new.items) }
+    {
+        gather(&self.pile, self.pegged_bounds(), found)
     }
 
     // Begins anew.

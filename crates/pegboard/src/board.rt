@@ -4,12 +4,11 @@ ghost use Rattle.std.specs.List.{position};
 ghost use Rattle.approx.specs.Meanings.{meaning};
 ghost use Rattle.approx.specs.Settling.{Settles};
 ghost use Rattle.solver.specs.Lists.{Counted};
-ghost use Rattle.solver.specs.Pegs.{Wanted};
 ghost use Rattle.solver.specs.Search.{Sought};
 ghost use Rattle.engine.specs.Standing.{standing, without_peg, pegs_count};
 ghost use Rattle.engine.specs.Rules.{peg_fault, pull_fault};
 ghost use Rattle.engine.specs.Histories.{History};
-ghost use Rattle.engine.specs.Listings.{list_gives, begun, moved_on, pull_leaves, Listable, Ran};
+ghost use Rattle.engine.specs.Listings.{list_gives, begun, moved_on, pull_leaves, WantedOf, Listable, Ran};
 ghost use Rattle.engine.specs.declared.runs.Event.TheVariants.{Next, Pull, Rewind, Tally};
 ghost use Rattle.pegboard.specs.Kept.{is_of, Kept};
 ghost use Rattle.pegboard.specs.Answered.{PegAnswer, after_peg, pull_told, unlisted};
@@ -59,18 +58,15 @@ impl<A: Approximator> Pegboard<A> {
             (λ e. list_gives settled ≡ Err e) }
         ensures law { Settles (meaning A.Approximator settled.pile) settled.bounds → IfOk result (λ b. Ran A.Approximator [] b.listing) }
     {
-        match settled.list() {
-            Ok(listing) => Ok(Pegboard {
-                listing,
-                tokens: Vec::new(alloc),
-            }),
-            Err(refused) => Err(refused),
-        }
+        Ok(Pegboard {
+            listing: settled.list()?,
+            tokens: Vec::new(alloc),
+        })
     }
 
     // The following stable interpretation that agrees with the pegs, or no more.
     pub fn next(&mut self) -> Option<Interpretation>
-        ensures gives { Listable A.Approximator self.old.listing → Sought (Wanted (meaning A.Approximator self.old.listing.pile) self.old.listing.pegs.on self.old.listing.pegs.off) self.old.listing.last result }
+        ensures gives { Listable A.Approximator self.old.listing → Sought (WantedOf A.Approximator self.old.listing) self.old.listing.last result }
         ensures leaves { self.new.listing ≡ moved_on self.old.listing result }
         ensures law { (h : History) → Ran A.Approximator h self.old.listing → Ran A.Approximator (Next result ∷ h) self.new.listing }
     {
@@ -79,7 +75,7 @@ impl<A: Approximator> Pegboard<A> {
 
     // How many stable interpretations agree with the pegs.
     pub fn tally(&self) -> u32
-        ensures gives { Listable A.Approximator self.now.listing → Counted (Wanted (meaning A.Approximator self.now.listing.pile) self.now.listing.pegs.on self.now.listing.pegs.off) result }
+        ensures gives { Listable A.Approximator self.now.listing → Counted (WantedOf A.Approximator self.now.listing) result }
         ensures law { (h : History) → Ran A.Approximator h self.now.listing → Ran A.Approximator (Tally result ∷ h) self.now.listing }
     {
         self.listing.tally()

@@ -1,5 +1,5 @@
 pub mod Lines
-pub mod Handing
+pub mod Standings
 pub mod Settling
 pub mod Answering
 pub mod Unique

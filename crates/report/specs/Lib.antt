@@ -1,4 +1,3 @@
 pub mod Sheets
 pub mod Lines
 pub mod Answers
-pub mod Handing

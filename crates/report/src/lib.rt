@@ -1,9 +1,10 @@
-// From a sheet's bytes to the bench's whole answer, as a value and printed: each mark with `on`, `off` or `open`, each stable
+// From a sheet's bytes to the bench's whole answer, as a value: each mark with `on`, `off` or `open`, each stable
 // interpretation as a line `standing`, and their number; or the refusal. The rule part, by the bound reading, is joined
 // with the relay part. specs/Answers.antt says what the answer is.
 #![tactic(auto)]
 
 ghost use Rattle.std.specs.Prelude.{◌≡◌, ◌<◌, [], OnOk, IfOk};
+ghost use Rattle.std.specs.List.{flat_map};
 ghost use Rattle.std.specs.Io.KnownBytes.{Appends};
 ghost use Rattle.approx.specs.Meanings.{meaning};
 ghost use Rattle.approx.specs.Settling.{Settles};
@@ -13,7 +14,6 @@ ghost use Rattle.engine.specs.Listings.{Ran};
 ghost use Rattle.report.specs.Sheets.{SettlesTo};
 ghost use Rattle.report.specs.Lines.{name, state_line, state_lines, name_if_on, standing_line, refusal_line};
 ghost use Rattle.report.specs.Answers.{IsListing, IsSettledAnswer, IsAnswer, AppendsSome, HasOneAnswer};
-ghost use Rattle.report.specs.Handing.{HandsNext};
 
 use aggregates::Bound;
 use approx::Approximator;
@@ -39,6 +39,8 @@ struct Sheet<'a> {
     text: &'a [u8],
 }
 
+// That an atom is below the width is asked by each method that is given one: a type for an atom of a sheet would lend the sheet
+// again, for the one call that follows.
 impl Sheet<'_> {
     // Writes an atom's name. A `match`: an atom below the width has one, and nothing is owed of any other.
     fn write_name<W: Write>(self, out: &mut W, atom: u8) -> io::Result<()>
@@ -99,39 +101,37 @@ impl Sheet<'_> {
         writeln!(out)
     }
 
-    // Writes the line of the next standing, if there is one.
-    fn write_next<W: Write, A: Approximator>(
-        self,
-        out: &mut W,
-        listing: &mut Listing<A>,
-    ) -> io::Result<()>
-        ensures { OnOk result (HandsNext A.Approximator (standing_line self.entry.text.now self.entry.table.now) (W.contents out.old) (W.contents out.new) listing.old listing.new) }
+    // Writes the lines of some standings, one after another.
+    fn write_standings<W: Write>(self, out: &mut W, standings: &[Interpretation]) -> io::Result<()>
+        ensures { OnOk result (Appends (W.contents out.old) (W.contents out.new) (flat_map (standing_line self.entry.text.now self.entry.table.now) standings.now)) }
     {
-        match listing.next() {
-            Some(standing) => self.write_standing(out, standing),
-            None => Ok(()),
+        for standing in standings {
+            self.write_standing(out, *standing)?;
         }
+        Ok(())
     }
 
-    // Writes the lines of all standings and of their number; they are as many as the tally says.
-    fn write_listing<W: Write, A: Approximator + Drop>(
+    // Writes the lines of all standings, which one walk gathers, and of their number.
+    fn write_listing<W: Write, A: Approximator>(
         self,
+        alloc: Global,
         out: &mut W,
-        mut listing: Listing<A>,
+        listing: &Listing<A>,
     ) -> io::Result<()>
-        requires { Ran A.Approximator [] listing }
-        ensures { OnOk result (AppendsSome (IsListing self.entry.text.now self.entry.table.now (meaning A.Approximator listing.pile)) (W.contents out.old) (W.contents out.new)) }
+        requires { Ran A.Approximator [] listing.now }
+        ensures { OnOk result (AppendsSome (IsListing self.entry.text.now self.entry.table.now (meaning A.Approximator listing.now.pile)) (W.contents out.old) (W.contents out.new)) }
     {
-        let total = listing.tally();
-        for _number in 0..total {
-            self.write_next(out, &mut listing)?;
-        }
+        let mut standings = Vec::new(alloc);
+        listing.standings(&mut standings)?;
+        self.write_standings(out, &standings)?;
+        let total = standings.len();
         writeln!(out, "total {total}")
     }
 
     // Writes the answer to a sheet whose bounds settle.
     fn write_settled<W: Write, A: Approximator + Drop>(
         self,
+        alloc: Global,
         out: &mut W,
         board: Settled<A>,
     ) -> io::Result<()>
@@ -140,7 +140,7 @@ impl Sheet<'_> {
     {
         self.write_states(out, board.bounds())?;
         match board.list() {
-            Ok(listing) => self.write_listing(out, listing),
+            Ok(listing) => self.write_listing(alloc, out, &listing),
             Err(refused) => write_refusal(out, refused.into()),
         }
     }
@@ -164,7 +164,7 @@ pub fn settled(table: &mut Table, text: &[u8]) -> Result<Settled<Pile>, BenchFau
 }
 
 // Writes the whole answer to a sheet: a text has one only.
-pub fn write_answer<W: Write>(out: &mut W, text: &[u8]) -> io::Result<()>
+fn write_answer<W: Write>(alloc: Global, out: &mut W, text: &[u8]) -> io::Result<()>
     ensures right { OnOk result (AppendsSome (IsAnswer text.now) (W.contents out.old) (W.contents out.new)) }
     ensures one { HasOneAnswer text.now }
 {
@@ -174,7 +174,7 @@ pub fn write_answer<W: Write>(out: &mut W, text: &[u8]) -> io::Result<()>
             table: &table,
             text,
         }
-        .write_settled(out, board),
+        .write_settled(alloc, out, board),
         Err(fault) => write_refusal(out, fault),
     }
 }
@@ -185,14 +185,6 @@ pub fn answer(alloc: Global, text: &[u8]) -> io::Result<Vec<u8>>
     ensures one { HasOneAnswer text.now }
 {
     let mut bytes = Vec::new(alloc);
-    write_answer(&mut bytes, text)?;
+    write_answer(alloc, &mut bytes, text)?;
     Ok(bytes)
-}
-
-// Prints the whole answer to a sheet.
-pub fn print_answer<R: Print + AllocGlobal>(rt: &R, text: &[u8]) -> io::Result<()> {
-    let bytes = answer(rt.alloc(), text)?;
-    let mut out = io::writer(rt);
-    out.write_all(&bytes)?;
-    out.flush()
 }

@@ -1,6 +1,6 @@
 -- Where two predicates hold of the same interpretations, what is said by the one is said by the other.
 use Rattle.std.proofs.Common.{ℕ, List, Some, None, Option}
-use Rattle.solver.specs.Lists.{Lists, Counted}
+use Rattle.solver.specs.Lists.{Lists, Counted, Gathered, GatheredFront}
 use Rattle.solver.specs.Search.{FirstAfter, NoneAfter, Sought}
 
 -- P and Q hold of the same
@@ -14,6 +14,12 @@ module _ {P Q : ℕ → Type 0} (a : Alike P Q) where
 
   pub counted_alike : {n : ℕ} → Counted P n → Counted Q n
   counted_alike c = record { items = c.items; long = c.long; held = lists_alike c.held }
+
+  pub gathered_alike : {old new : List ℕ} → Gathered P old new → Gathered Q old new
+  gathered_alike g = record { items = g.items; listed = lists_alike g.listed; behind = g.behind }
+
+  pub gathered_front_alike : {old new : List ℕ} → GatheredFront P old new → GatheredFront Q old new
+  gathered_front_alike g = record { items = g.items; rest = g.rest; listed = lists_alike g.listed; behind = g.behind }
 
   pub none_alike : (after : Option ℕ) → NoneAfter P after → NoneAfter Q after
   none_alike after n x l q = n x l (a.back x q)

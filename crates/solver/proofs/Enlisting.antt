@@ -1,5 +1,5 @@
 -- There is a list of all that are stable between bounds, and one of all that are wanted.
-use Rattle.std.proofs.Common.{ℕ, zero, suc, ◌+◌, ◌-◌, ◌^◌, ◌<◌, List, ◌∙◌, inl, inr, mod-lt, arith, pow_pos, pow_mono}
+use Rattle.std.proofs.Common.{ℕ, zero, suc, ◌-◌, ◌^◌, ◌<◌, List, [], ◌∷◌, ◌++◌, ◌∙◌, inl, inr, mod-lt, arith, pow_pos, pow_mono}
 use lib.Bits.{bit_and, and_le_l}
 use lib.Count.{count_trailing_zeros}
 use lib.Pow.{pow-lt}
@@ -17,13 +17,13 @@ use Rattle.approx.specs.Settling.{first_bounds, begins}
 use Rattle.approx.proofs.Laws.{Lawful}
 use Rattle.approx.proofs.Deciding.{stable_or_not}
 use Rattle.approx.proofs.Steadiness.{stable_between}
-use Rattle.solver.specs.Lists.{Lists, Counted}
+use Rattle.solver.specs.Lists.{Lists}
 use Rattle.solver.specs.Pegs.{Wanted, pegged, Pegs}
 use Rattle.solver.specs.Search.{Inside, Parts}
 use Rattle.solver.proofs.Alikeness.{Alike, lists_alike}
 use Rattle.solver.proofs.Parting.{crossed_leaves, closed_one, closed_none, parts_at, parts_joins}
 use Rattle.solver.proofs.Pegging.{pegs_hold, wanted_alike}
-use Rattle.solver.proofs.Tallying.{counted_none, counted_one, counted_both}
+use Rattle.solver.proofs.Listed.{lists_none, lists_one, lists_both}
 
 -- bounds parted at their lowest open atom
 atom_parts : (b : Bounds) (i : ℕ) → b.upper < 2 ^ 64 → Proper b → i < 64 → Lowest (collected (is_open b) 64) i → Parts b (pegged b 0 (2 ^ i)) (pegged b (2 ^ i) 0)
@@ -35,26 +35,26 @@ lacking_fits u off h = omega (arith, and_le_l u (2 ^ 64 - 1 - off))
 module _ {m : Meaning} (laws : Lawful m) where
   -- ---- between bounds
   -- they are not crossed, and have fewer open atoms than `left`
-  count_from : (left : ℕ) (b : Bounds) → open_count b < left → b.upper < 2 ^ 64 → Proper b → (n : ℕ) × Counted (Inside m b) n
-  count_from zero b h hu p = absurd (omega arith)
-  count_from (suc left) b h hu p = elim (cases_eq (collected (is_open b) 64) 0) [
+  list_from : (left : ℕ) (b : Bounds) → open_count b < left → b.upper < 2 ^ 64 → Proper b → (xs : List ℕ) × Lists (Inside m b) xs
+  list_from zero b h hu p = absurd (omega arith)
+  list_from (suc left) b h hu p = elim (cases_eq (collected (is_open b) 64) 0) [
     | inl e ↦ elim (stable_or_not laws b.lower) [
-      | inl s ↦ (1, counted_one (closed_one hu e p s))
-      | inr n ↦ (0, counted_none (closed_none hu e n))
+      | inl s ↦ (b.lower ∷ [], lists_one (closed_one hu e p s))
+      | inr n ↦ ([], lists_none (closed_none hu e n))
     ]
     | inr d ↦
         (let low = lowest_at 64 (collected (is_open b) 64) (omega arith) (collected_below (is_open b) 64) in
         let i : ℕ = count_trailing_zeros 64 (collected (is_open b) 64) in
         let parts : Parts b (pegged b 0 (2 ^ i)) (pegged b (2 ^ i) 0) = atom_parts b i hu p low.0 low.1 in
-        let first = count_from left (pegged b 0 (2 ^ i)) (omega (arith, parts.first_fewer)) (lacking_fits b.upper (2 ^ i) hu) parts.first_proper in
-        let second = count_from left (pegged b (2 ^ i) 0) (omega (arith, parts.second_fewer)) (lacking_fits b.upper 0 hu) parts.second_proper in
-        (first.0 + second.0, counted_both (parts_joins parts) first.1 second.1))
+        let first = list_from left (pegged b 0 (2 ^ i)) (omega (arith, parts.first_fewer)) (lacking_fits b.upper (2 ^ i) hu) parts.first_proper in
+        let second = list_from left (pegged b (2 ^ i) 0) (omega (arith, parts.second_fewer)) (lacking_fits b.upper 0 hu) parts.second_proper in
+        (first.0 ++ second.0, lists_both (parts_joins parts) first.1 second.1))
   ]
 
-  inside_counted : (b : Bounds) → b.upper < 2 ^ 64 → (n : ℕ) × Counted (Inside m b) n
-  inside_counted b hu = elim (cases_eq (bit_and b.lower b.upper) b.lower) [
-    | inl e ↦ count_from (suc (open_count b)) b (omega arith) hu (within_test e)
-    | inr n ↦ (0, counted_none (crossed_leaves (λ p. n (test_within p))))
+  pub inside_listed : (b : Bounds) → b.upper < 2 ^ 64 → (xs : List ℕ) × Lists (Inside m b) xs
+  inside_listed b hu = elim (cases_eq (bit_and b.lower b.upper) b.lower) [
+    | inl e ↦ list_from (suc (open_count b)) b (omega arith) hu (within_test e)
+    | inr n ↦ ([], lists_none (crossed_leaves (λ p. n (test_within p))))
   ]
 
   -- ---- with pegs
@@ -74,5 +74,5 @@ module _ {m : Meaning} (laws : Lawful m) where
       let b : Bounds = first_bounds m in
       let fits : all_below m.width < 2 ^ 64 = omega (arith, pow_mono laws.wide.1, pow_pos m.width) in
       let pegs : Pegs b on (clipped 64 off) (pegged b on (clipped 64 off)) = pegs_hold b on (clipped 64 off) fits (mod-lt off (pow_pos 64)) in
-      let all = (inside_counted (pegged b on (clipped 64 off)) (lacking_fits (all_below m.width) (clipped 64 off) fits)).1 in
-      (all.items, lists_alike (pegs_clipped on off) (lists_alike (wanted_alike pegs (λ x t. stable_between laws t begins)) all.held))
+      let all = inside_listed (pegged b on (clipped 64 off)) (lacking_fits (all_below m.width) (clipped 64 off) fits) in
+      (all.0, lists_alike (pegs_clipped on off) (lists_alike (wanted_alike pegs (λ x t. stable_between laws t begins)) all.1))

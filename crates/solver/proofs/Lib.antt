@@ -3,6 +3,7 @@ mod Parting
 mod Forking
 mod Seeking
 mod Tallying
+mod Gathering
 pub mod Alikeness
 pub mod Listed
 pub mod Pegging

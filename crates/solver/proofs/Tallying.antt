@@ -1,33 +1,21 @@
 -- Counts: of none, of one only, and of two parts.
-use Rattle.std.proofs.Common.{◌≡◌, ℕ, suc, ◌+◌, ◌-◌, ◌*◌, ◌^◌, ◌<◌, ◌≤◌, min, [], ◌∷◌, ◌++◌, sym, refl, ◌∙◌, subst, ap₂, inl, inr, pow-suc, arith, length-append, pow_pos, pow_mono}
+use Rattle.std.proofs.Common.{◌≡◌, ℕ, suc, ◌+◌, ◌-◌, ◌*◌, ◌^◌, ◌<◌, ◌≤◌, min, [], ◌∷◌, ◌++◌, refl, ◌∙◌, subst, ap₂, pow-suc, arith, length-append, pow_pos, pow_mono}
 use Rattle.solver.specs.Lists.{Counted, Tallied}
 use Rattle.solver.specs.Search.{Only, Joins}
-use Rattle.solver.proofs.Listed.{in_append, in_left, in_right, ordered_append}
+use Rattle.solver.proofs.Listed.{lists_none, lists_one, lists_both}
 
 -- ---- how many there are
 pub counted_none : {P : ℕ → Type 0} → ((x : ℕ) → P x → ⊥) → Counted P 0
-counted_none f = record { items = []; long = refl; held = record { ordered = tt; sound = λ x i. absurd i; whole = λ x p. absurd (f x p) } }
+counted_none f = record { items = []; long = refl; held = lists_none f }
 
 pub counted_one : {P : ℕ → Type 0} {z : ℕ} → Only P z → Counted P 1
-counted_one {P} {z} o = record {
-  items = z ∷ [];
-  long = refl;
-  held = record {
-    ordered = (tt, tt);
-    sound = λ x i. elim i [ inl e ↦ subst P (sym e) o.here | inr n ↦ absurd n ];
-    whole = λ x p. inl (o.one x p);
-  };
-}
+counted_one {z = z} o = record { items = z ∷ []; long = refl; held = lists_one o }
 
 pub counted_both : {P Q R : ℕ → Type 0} {m n : ℕ} → Joins P Q R → Counted Q m → Counted R n → Counted P (m + n)
 counted_both j p q = record {
   items = p.items ++ q.items;
   long = length-append p.items q.items ∙ ap₂ ◌+◌ p.long q.long;
-  held = record {
-    ordered = ordered_append p.items q.items p.held.ordered q.held.ordered (λ x y i k. j.ahead x y (p.held.sound x i) (q.held.sound y k));
-    sound = λ x i. elim (in_append x p.items q.items i) [ inl k ↦ j.first_in x (p.held.sound x k) | inr k ↦ j.second_in x (q.held.sound x k) ];
-    whole = λ x i. elim (j.either x i) [ inl k ↦ in_left x p.items q.items (p.held.whole x k) | inr k ↦ in_right x p.items q.items (q.held.whole x k) ];
-  };
+  held = lists_both j p.held q.held;
 }
 
 -- ---- as the search says it

@@ -1,5 +1,5 @@
 -- Lists of interpretations in listing order, and how many there are.
-use Rattle.std.specs.Prelude.{◌≡◌, ℕ, ◌-◌, ◌^◌, ◌≤◌, min, ◌⊎◌, List, [], ◌∷◌, length}
+use Rattle.std.specs.Prelude.{◌≡◌, ℕ, ◌-◌, ◌^◌, ◌≤◌, min, ◌⊎◌, List, [], ◌∷◌, ◌++◌, length}
 use Rattle.atoms.specs.Order.{Before}
 
 -- x is one of the list
@@ -35,3 +35,16 @@ pub record Tallied (P : ℕ → Type 0) (limit r : ℕ) : Type 0 where
   pub counted : Counted P number
   pub few : number ≤ limit
   pub said : r ≡ min number (2 ^ 32 - 1)
+
+-- the list new is the list old and, behind it, all of which P holds, in listing order
+pub record Gathered (P : ℕ → Type 0) (old new : List ℕ) : Type 0 where
+  pub items : List ℕ
+  pub listed : Lists P items
+  pub behind : new ≡ old ++ items
+
+-- the list new is the list old and, behind it, the first so many of which P holds, in listing order
+pub record GatheredFront (P : ℕ → Type 0) (old new : List ℕ) : Type 0 where
+  pub items : List ℕ
+  pub rest : List ℕ
+  pub listed : Lists P (items ++ rest)
+  pub behind : new ≡ old ++ items

@@ -9,6 +9,6 @@ mod settling;
 mod stability;
 
 pub use pegs::pegged;
-pub use search::{count, first_after};
+pub use search::{count, first_after, gather};
 pub use settling::{bounds_after, settle};
 pub use stability::is_stable;

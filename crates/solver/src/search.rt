@@ -1,8 +1,9 @@
 // The search for stable interpretations between bounds: the bounds are narrowed, and then parted at the lowest open atom.
-ghost use Rattle.std.specs.Prelude.{◌^◌, ◌≤◌, Decides};
+// The pile and the bounds stay two arguments: the one is lent through the whole search, the others change at every call.
+ghost use Rattle.std.specs.Prelude.{◌^◌, ◌≤◌, Decides, OnOk, OnErr};
 ghost use Rattle.atoms.specs.Bounded.{Proper, open_count};
 ghost use Rattle.approx.specs.Meanings.{meaning};
-ghost use Rattle.solver.specs.Lists.{Counted, Tallied};
+ghost use Rattle.solver.specs.Lists.{Counted, Tallied, Gathered, GatheredFront};
 ghost use Rattle.solver.specs.Search.{Inside, Founded, Narrows, Leaves, Forks, After, Sought};
 
 use super::climb::climb;
@@ -10,6 +11,7 @@ use super::pegs::pegged;
 use super::stability::is_stable;
 use approx::Approximator;
 use atoms::{Bounds, Interpretation, comes_before, lowest, only};
+use std::alloc::AllocError;
 
 // What bounds leave: nothing that is stable, a single one that is, or two parts, where all of the first comes before the second.
 #[derive(Clone, Copy)]
@@ -24,7 +26,7 @@ enum Fork {
 fn founded<A: Approximator>(pile: &A, bounds: Bounds) -> Interpretation
     ensures { Founded (meaning A.Approximator pile.now) bounds result }
 {
-    climb(0, |kept| {
+    climb(0, bounds.upper, |kept| {
         let upper = bounds.lower | kept;
         bounds.upper & pile.may(Bounds { upper, ..bounds })
     })
@@ -99,7 +101,8 @@ pub fn first_after<A: Approximator>(
     }
 }
 
-// How many stable interpretations lie between the bounds; a number that does not fit is the greatest that does.
+// How many stable interpretations lie between the bounds, by the walk of `gather`, without a list; a number that does not fit is
+// the greatest that does.
 pub fn count<A: Approximator>(pile: &A, bounds: Bounds) -> u32
     ensures tallied { Tallied (Inside (meaning A.Approximator pile.now) bounds) (2 ^ open_count bounds) result }
     ensures exact { open_count bounds ≤ 16 → Counted (Inside (meaning A.Approximator pile.now) bounds) result }
@@ -111,5 +114,32 @@ pub fn count<A: Approximator>(pile: &A, bounds: Bounds) -> u32
         Fork::Nothing => 0,
         Fork::Single(_) => 1,
         Fork::Two(without, with) => count(pile, without).saturating_add(count(pile, with)),
+    }
+}
+
+// Puts the stable interpretations between the bounds behind those that the list has, in listing order. Nothing is allocated but
+// room in the list; where memory runs short, the first so many are there. It walks as `count` does, which keeps no list: one walk
+// for both would hand a closure down the recursion, and would have to repeat what is promised of the whole.
+pub fn gather<A: Approximator>(
+    pile: &A,
+    bounds: Bounds,
+    found: &mut Vec<Interpretation>,
+) -> Result<(), AllocError>
+    ensures whole { OnOk result (Gathered (Inside (meaning A.Approximator pile.now) bounds) found.old.items found.new.items) }
+    ensures short { OnErr result (GatheredFront (Inside (meaning A.Approximator pile.now) bounds) found.old.items found.new.items) }
+{
+    if !bounds.is_proper() {
+        return Ok(());
+    }
+    match branch(pile, bounds) {
+        Fork::Nothing => Ok(()),
+        Fork::Single(z) => {
+            found.push(z)?;
+            Ok(())
+        }
+        Fork::Two(without, with) => {
+            gather(pile, without, found)?;
+            gather(pile, with, found)
+        }
     }
 }

@@ -15,7 +15,7 @@ pub(crate) fn climb_lower<A: Approximator>(pile: &A, upper: Interpretation) -> I
     requires { Within (A.sure pile.now upper upper) upper }
     ensures { Climbs (λ x. A.sure pile.now x upper) 0 result }
 {
-    climb(0, |lower| pile.sure(Bounds { lower, upper }))
+    climb(0, upper, |lower| pile.sure(Bounds { lower, upper }))
 }
 
 // The climb by may from the lower, over it.
@@ -23,7 +23,9 @@ fn climb_upper<A: Approximator>(pile: &A, lower: Interpretation) -> Interpretati
     requires { Within lower (A.may pile.now lower lower) }
     ensures { Climbs (λ x. A.may pile.now lower x) lower result }
 {
-    climb(lower, |upper| pile.may(Bounds { lower, upper }))
+    climb(lower, first_bounds(pile).upper, |upper| {
+        pile.may(Bounds { lower, upper })
+    })
 }
 
 // One round: the bounds after these.
