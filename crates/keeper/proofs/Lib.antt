@@ -1,1 +1,4 @@
 mod Telling
+mod Writing
+mod Keeping
+mod Saying

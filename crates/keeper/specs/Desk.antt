@@ -1,12 +1,17 @@
 -- What a reply tells of the calls that were made: the history h behind the listing becomes k.
-use Rattle.std.specs.Prelude.{◌≡◌, ℕ, ◌<◌, List, ◌∷◌, Some, None, Ok, Err, Option}
+use Rattle.std.specs.Prelude.{◌≡◌, ℕ, ◌<◌, List, ◌∷◌, Some, None, Ok, Err, Option, ◌⊎◌}
 use Rattle.faults.specs.declared.BenchFault.TheVariants as fault
+use Rattle.approx.specs.declared.approximator.Approximator.{Ghosts}
 use Rattle.engine.specs.Standing.{pegs_count}
 use Rattle.engine.specs.Histories.{History}
+use Rattle.engine.specs.Listings.{Ran}
+use Rattle.engine.specs.declared.listing.Listing.{Listing}
 use Rattle.engine.specs.declared.pegs.Sense.{Sense}
 use Rattle.engine.specs.declared.pegs.Pegs.{Pegs}
 use Rattle.engine.specs.declared.runs.Event.TheVariants as event
 use Rattle.keeper.specs.Names.{named}
+use Rattle.keeper.specs.Commands.{Says, SaysNone}
+use Rattle.keeper.specs.declared.command.Misread.{Misread}
 use Rattle.keeper.specs.declared.command.Command.{Command}
 use Rattle.keeper.specs.declared.command.Command.TheVariants as command
 use Rattle.keeper.specs.declared.marks.Marks.{Marks}
@@ -40,3 +45,11 @@ Told m pegs command.Marks (reply.States n) h k = (n ≡ m) × (k ≡ h)
 Told m pegs command.Close reply.Closed h k = (pegs_count pegs ≡ 0) × (k ≡ h)
 Told m pegs command.Close (reply.Refused (fault.PegsInForce n) name) h k = (n ≡ pegs_count pegs) × (0 < n) × (k ≡ h)
 Told m pegs c r h k = ⊥
+
+-- a line that says a command is answered by what that comes to; any other by why it says none, and nothing is done
+abbrev pub Replied : Marks → Pegs → List ℕ → Reply → History → History → Type 0
+Replied m pegs line r h k = ((c : Command) × Says line c × Told m pegs c r h k) ⊎ ((why : Misread) × SaysNone line why × (r ≡ reply.Misread why) × (k ≡ h))
+
+-- a reply is the answer to a line where the listing goes on from old to new: whatever history lies behind the one, one that the reply tells lies behind the other
+abbrev pub AnswersLine : {X : Type 0} → Ghosts X → Marks → List ℕ → Listing X → Listing X → Reply → Type 0
+AnswersLine G m line old new r = (h : History) → Ran G h old → (k : History) × Replied m old.pegs line r h k × Ran G k new

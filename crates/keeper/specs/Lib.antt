@@ -2,3 +2,5 @@ pub mod Names
 pub mod Texts
 pub mod Desk
 pub mod Commands
+pub mod Refusals
+pub mod Sessions

@@ -1,5 +1,5 @@
 -- What is printed of each reply.
-use Rattle.std.specs.Prelude.{ℕ, ◌+◌, Bool, cond, List, [], ◌∷◌, ◌++◌, codes}
+use Rattle.std.specs.Prelude.{ℕ, ◌+◌, Bool, true, false, cond, List, [], ◌∷◌, ◌++◌, codes}
 use Rattle.std.specs.Fmt.{decimal}
 use Rattle.std.specs.Borrow.{Bor}
 use Rattle.atoms.specs.Sets.{has}
@@ -44,10 +44,10 @@ side_word sense.Off = codes "off"
 
 -- a refusal's number and meaning
 abbrev pub refused_text : BenchFault → List ℕ → List ℕ
-refused_text (fault.NoSuchAtom i) name = codes "refused 16: there is no mark '" ++ name ++ codes "'"
-refused_text (fault.Pegged i) name = codes "refused 17: " ++ name ++ codes " has a peg already"
-refused_text (fault.NotInForce i) name = codes "refused 18: no such peg of " ++ name ++ codes " is in force"
-refused_text (fault.PegsInForce n) name = codes "refused 19: pegs are in force, " ++ decimal n ++ codes " of them"
+refused_text (fault.NoSuchAtom i) name = codes "refused " ++ decimal (bench_told (fault.NoSuchAtom i)).number ++ codes ": there is no mark '" ++ name ++ codes "'"
+refused_text (fault.Pegged i) name = codes "refused " ++ decimal (bench_told (fault.Pegged i)).number ++ codes ": " ++ name ++ codes " has a peg already"
+refused_text (fault.NotInForce i) name = codes "refused " ++ decimal (bench_told (fault.NotInForce i)).number ++ codes ": no such peg of " ++ name ++ codes " is in force"
+refused_text (fault.PegsInForce n) name = codes "refused " ++ decimal (bench_told (fault.PegsInForce n)).number ++ codes ": pegs are in force, " ++ decimal n ++ codes " of them"
 refused_text (fault.Sheet f) name = codes "refused " ++ told_text (bench_told (fault.Sheet f))
 refused_text (fault.BerthTooWide w) name = codes "refused " ++ told_text (bench_told (fault.BerthTooWide w))
 refused_text fault.Crossed name = codes "refused " ++ told_text (bench_told fault.Crossed)
@@ -72,3 +72,8 @@ reply_text (reply.Ended n) = codes "the input is over: pegs pulled " ++ decimal 
 reply_text (reply.Refused f name) = refused_text f name.now
 reply_text reply.NoMemory = codes "memory is short, and nothing has changed"
 reply_text (reply.Misread m) = misread_text m
+
+-- nothing is asked after `closed`, and after nothing else
+abbrev pub is_last : Reply → Bool
+is_last reply.Closed = true
+is_last r = false

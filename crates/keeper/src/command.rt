@@ -1,11 +1,15 @@
 // A line of input, read as a command: its words are split by one space.
-ghost use Rattle.std.specs.Prelude.{◌≡◌, IfOk, IfSome};
+ghost use Rattle.std.specs.Prelude.{◌≡◌, ◌≢◌, ℕ, true, false, List, MatchResult, IfNone, IfSome};
+ghost use Rattle.std.specs.Option.{option_copied};
+ghost use Rattle.engine.specs.declared.pegs.Sense.{Sense};
 ghost use Rattle.keeper.specs.Texts.{side_word};
-ghost use Rattle.keeper.specs.Commands.{named_text, command_text};
+ghost use Rattle.keeper.specs.declared.command.Command.{Command};
+ghost use Rattle.keeper.specs.Commands.{named_text, command_text, IsOneWord, names_a_mark, Says, first_word, form_of, IsReason, SaysNone, SaysOne};
 
 use engine::Sense;
 
-// What may be asked at the desk.
+// What may be asked at the desk. A name and a side stay two, here, in replies and at the desk: a peg of the engine is an atom and a
+// side, and only a token holds those together.
 #[derive(Clone, Copy, Debug, PartialEq, Eq)]
 pub enum Command<'a> {
     Next,
@@ -24,9 +28,10 @@ pub enum Misread<'a> {
     Say(&'static str),
 }
 
-// The side that a word says.
+// The side that a word says. It stands here, and is no `FromStr` of the engine's: the words are the keeper's own.
 fn side_of(word: &str) -> Option<Sense>
-    ensures { IfSome result (λ s. word.now ≡ side_word s) }
+    ensures some { IfSome result (λ s. word.now ≡ side_word s) }
+    ensures none { IfNone result ((s : Sense) → word.now ≢ side_word s) }
 {
     match word {
         "on" => Some(Sense::On),
@@ -35,9 +40,10 @@ fn side_of(word: &str) -> Option<Sense>
     }
 }
 
-// The name and the side that words say.
+// The name and the side that words say: a pair, which `of_words` takes apart at once, so that a struct is no plainer.
 fn named(words: &str) -> Option<(&str, Sense)>
-    ensures { IfSome result (λ x. words.now ≡ named_text x.0.now x.1) }
+    ensures some { IfSome result (λ x. (words.now ≡ named_text x.0.now x.1) × IsOneWord x.0.now) }
+    ensures none { IfNone result ((name : List ℕ) (s : Sense) → IsOneWord name → words.now ≢ named_text name s) }
 {
     let (name, side) = words.split_once(' ')?;
     Some((name, side_of(side)?))
@@ -45,7 +51,8 @@ fn named(words: &str) -> Option<(&str, Sense)>
 
 // The command that is one word.
 fn alone(word: &str) -> Option<Command<'static>>
-    ensures { IfSome result (λ c. word.now ≡ command_text c) }
+    ensures some { IfSome result (λ c. Says word.now c) }
+    ensures none { IfNone result ((c : Command) → names_a_mark c ≡ false → word.now ≢ command_text c) }
 {
     match word {
         "next" => Some(Command::Next),
@@ -58,7 +65,9 @@ fn alone(word: &str) -> Option<Command<'static>>
 }
 
 // How the command of a first word is said.
-fn form(verb: &str) -> Option<&'static str> {
+fn form(verb: &str) -> Option<&'static str>
+    ensures { option_copied result ≡ form_of verb.now }
+{
     match verb {
         "next" => Some("next"),
         "peg" => Some("peg NAME on|off"),
@@ -71,10 +80,30 @@ fn form(verb: &str) -> Option<&'static str> {
     }
 }
 
+// The first word of a line.
+fn first_word(line: &str) -> &str
+    ensures { result.now ≡ first_word line.now }
+{
+    line.split_once(' ').map_or(line, |(verb, _)| verb)
+}
+
+// Why a line that says no command says none.
+fn reason(line: &str) -> Misread<'_>
+    ensures { IsReason (form_of (first_word line.now)) (first_word line.now) result }
+{
+    let verb = first_word(line);
+    // A `match`: `map_or(.., Misread::Say)` was tried, and is not covered, since the lifetime of what it gives stands in no argument.
+    match form(verb) {
+        Some(form) => Misread::Say(form),
+        None => Misread::NoSuch(verb),
+    }
+}
+
 impl<'a> Command<'a> {
     // The command of several words.
     fn of_words(line: &'a str) -> Option<Command<'a>>
-        ensures { IfSome result (λ c. line.now ≡ command_text c) }
+        ensures some { IfSome result (λ c. Says line.now c) }
+        ensures none { IfNone result ((c : Command) → names_a_mark c ≡ true → ¬ Says line.now c) }
     {
         if let Some(words) = line.strip_prefix("peg ") {
             let (name, sense) = named(words)?;
@@ -87,18 +116,11 @@ impl<'a> Command<'a> {
 
     // The command that a line says.
     pub fn read(line: &'a str) -> Result<Command<'a>, Misread<'a>>
-        ensures { IfOk result (λ c. line.now ≡ command_text c) }
+        ensures right { MatchResult result (λ c. Says line.now c) (λ why. SaysNone line.now why) }
+        ensures one { SaysOne line.now }
     {
-        if let Some(command) = alone(line) {
-            return Ok(command);
-        }
-        if let Some(command) = Command::of_words(line) {
-            return Ok(command);
-        }
-        let verb = line.split(' ').next().unwrap_or(line);
-        match form(verb) {
-            Some(form) => Err(Misread::Say(form)),
-            None => Err(Misread::NoSuch(verb)),
-        }
+        alone(line)
+            .or_else(|| Command::of_words(line))
+            .ok_or_else(|| reason(line))
     }
 }

@@ -1,8 +1,10 @@
 // The desk: performs a command at a pegboard, and gives the reply.
+// The board and the marks stay two arguments: the board is lent to be changed, by `keep`, which has to finish it; the marks are only
+// read.
 ghost use Rattle.engine.specs.Histories.{History};
 ghost use Rattle.engine.specs.Listings.{Ran};
 ghost use Rattle.keeper.specs.Names.{named};
-ghost use Rattle.keeper.specs.Desk.{PegTold, PullTold, Told};
+ghost use Rattle.keeper.specs.Desk.{PegTold, PullTold, Told, AnswersLine};
 
 use super::command::Command;
 use super::marks::Marks;
@@ -75,5 +77,19 @@ pub fn perform<'a, A: Approximator>(
             0 => Reply::Closed,
             pegs => Reply::Refused(BenchFault::PegsInForce(pegs), ""),
         },
+    }
+}
+
+// Replies to a line: performs the command that it says, or tells why it says none.
+pub fn reply<'a, A: Approximator>(
+    board: &mut Pegboard<A>,
+    marks: Marks<'a>,
+    line: &'a str,
+) -> Reply<'a>
+    ensures { AnswersLine A.Approximator marks.entry line.now board.old.listing board.new.listing result }
+{
+    match Command::read(line) {
+        Ok(command) => perform(board, marks, command),
+        Err(misread) => Reply::Misread(misread),
     }
 }

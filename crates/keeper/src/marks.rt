@@ -31,8 +31,10 @@ fn place_of(names: &[&str], word: &str) -> Option<usize>
 
 impl<'a> Marks<'a> {
     // The marks of these names.
-    pub fn new(names: &'a [&'a str], bounds: Bounds) -> Marks<'a>
+    pub(super) fn new(names: &'a [&'a str], bounds: Bounds) -> Marks<'a>
         requires { length names.now ≤ 64 }
+        ensures names { result.names.now ≡ names.now }
+        ensures bounds { result.bounds ≡ bounds }
     {
         Marks { names, bounds }
     }

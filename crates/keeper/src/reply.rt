@@ -1,6 +1,6 @@
 // What is replied at the desk, each in one line.
 ghost use Rattle.std.specs.Prelude.{◌≡◌, Some};
-ghost use Rattle.keeper.specs.Texts.{side_word, refused_text, misread_text, reply_text};
+ghost use Rattle.keeper.specs.Texts.{side_word, refused_text, misread_text, reply_text, is_last};
 
 use super::command::Misread;
 use super::marks::Marks;
@@ -28,12 +28,14 @@ pub enum Reply<'a> {
 
 impl Reply<'_> {
     // Whether nothing is asked after it.
-    pub fn is_last(&self) -> bool {
+    pub fn is_last(&self) -> bool
+        ensures { result ≡ is_last self.now }
+    {
         matches!(self, Reply::Closed)
     }
 }
 
-// The word of a side.
+// The word of a side. It stands here, and is no `Display` of the engine's: the words are the keeper's own.
 fn side(sense: Sense) -> &'static str
     ensures { result.now ≡ side_word sense }
 {
@@ -56,13 +58,17 @@ impl fmt::Display for Refusal<'_> {
     fn fmt<W: fmt::Write>(&self, f: &mut fmt::Formatter<W>) -> fmt::Result {
         let name = self.name;
         let fault = self.fault;
+        let number = fault.number();
         match fault {
-            BenchFault::NoSuchAtom(_) => write!(f, "refused 16: there is no mark '{name}'"),
-            BenchFault::Pegged(_) => write!(f, "refused 17: {name} has a peg already"),
-            BenchFault::NotInForce(_) => write!(f, "refused 18: no such peg of {name} is in force"),
+            BenchFault::NoSuchAtom(_) => write!(f, "refused {number}: there is no mark '{name}'"),
+            BenchFault::Pegged(_) => write!(f, "refused {number}: {name} has a peg already"),
+            BenchFault::NotInForce(_) => write!(
+                f,
+                "refused {number}: no such peg of {name} is in force"
+            ),
             BenchFault::PegsInForce(pegs) => write!(
                 f,
-                "refused 19: pegs are in force, {pegs} of them"
+                "refused {number}: pegs are in force, {pegs} of them"
             ),
             _ => write!(f, "refused {fault}"),
         }

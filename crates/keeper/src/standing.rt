@@ -1,6 +1,6 @@
 // Marks as they are printed in one line.
 ghost use Rattle.std.specs.Prelude.{Some};
-ghost use Rattle.keeper.specs.Texts.{mark_text, marks_text, lit_text, standing_text};
+ghost use Rattle.keeper.specs.Texts.{mark_text, marks_text, standing_text};
 
 use super::marks::Marks;
 use atoms::{Interpretation, State, has};
@@ -39,26 +39,6 @@ impl fmt::Display for Marks<'_> {
     }
 }
 
-// A name that is told where its mark is on.
-#[derive(Clone, Copy)]
-struct Lit<'a> {
-    name: &'a str,
-    on: bool,
-}
-
-impl fmt::Display for Lit<'_> {
-    ghost output = { λ lit. Some (lit_text lit.on lit.name.now) };
-
-    fn fmt<W: fmt::Write>(&self, f: &mut fmt::Formatter<W>) -> fmt::Result {
-        if self.on {
-            let name = self.name;
-            write!(f, " {name}")
-        } else {
-            Ok(())
-        }
-    }
-}
-
 // The marks that are on in an interpretation.
 #[derive(Clone, Copy)]
 pub struct Standing<'a> {
@@ -72,11 +52,9 @@ impl fmt::Display for Standing<'_> {
     fn fmt<W: fmt::Write>(&self, f: &mut fmt::Formatter<W>) -> fmt::Result {
         write!(f, "standing")?;
         for (i, name) in self.marks.names.iter().enumerate() {
-            let lit = Lit {
-                name,
-                on: has(self.on, i as u8),
-            };
-            write!(f, "{lit}")?;
+            if has(self.on, i as u8) {
+                write!(f, " {name}")?;
+            }
         }
         Ok(())
     }
