@@ -292,27 +292,23 @@ class Board:
         self.size = len(sheet.names)
         self.all = (1 << self.size) - 1
 
-    def sure(self, l, u):
+    def derived(self, held, possible, holds):
+        """The heads of the rules whose plain marks are held, whose negated ones are not possible and whose loads hold, and
+        the marks with a relay line none of whose attackers is possible."""
         out = 0
         for head, plain, negative, loads in self.sheet.rules:
-            if within(plain, l) and apart(negative, u) and all(
-                    load_sure(self.sheet.loads[i], l, u, self.plain_reading) for i in loads):
+            if within(plain, held) and apart(negative, possible) and all(holds(self.sheet.loads[i]) for i in loads):
                 out |= 1 << head
         for atom, attackers in self.sheet.relays.items():
-            if apart(attackers, u):
+            if apart(attackers, possible):
                 out |= 1 << atom
         return out
 
+    def sure(self, l, u):
+        return self.derived(l, u, lambda load: load_sure(load, l, u, self.plain_reading))
+
     def may(self, l, u):
-        out = 0
-        for head, plain, negative, loads in self.sheet.rules:
-            if within(plain, u) and apart(negative, l) and all(
-                    load_may(self.sheet.loads[i], l, u, self.plain_reading) for i in loads):
-                out |= 1 << head
-        for atom, attackers in self.sheet.relays.items():
-            if apart(attackers, l):
-                out |= 1 << atom
-        return out
+        return self.derived(u, l, lambda load: load_may(load, l, u, self.plain_reading))
 
     def next_bounds(self, l, u):
         return (climb(lambda c: self.sure(c, u), 0),

@@ -92,25 +92,26 @@ def chains():
         yield f"chain of {number} relays", sheets.join([names, [], [], relays])
 
 
-def stratified_rules():
-    rng = random.Random(1)
-    names = marks(64)
+def layered(rng, names, number):
+    """Rules of three conditions each, all on marks before their head, which is not one of the first eight."""
     lines = []
-    for _ in range(128):
-        head = rng.randrange(8, 64)
+    for _ in range(number):
+        head = rng.randrange(8, len(names))
         lines.append(" ".join([names[head], "if"] + [rng.choice(["", "not "]) + names[rng.randrange(head)] for _ in range(3)]))
+    return lines
+
+
+def stratified_rules():
+    names = marks(64)
+    lines = layered(random.Random(1), names, 128)
     for number in (16, 32, 64, 128):
         yield f"{number} rules in layers, all settled", sheets.join([names, [], lines[:number], []])
 
 
 def open_rules():
     """Rules over four even rings."""
-    rng = random.Random(2)
     names = marks(16)
-    lines = []
-    for _ in range(120):
-        head = rng.randrange(8, 16)
-        lines.append(" ".join([names[head], "if"] + [rng.choice(["", "not "]) + names[rng.randrange(head)] for _ in range(3)]))
+    lines = layered(random.Random(2), names, 120)
     for number in (16, 32, 64, 128):
         rules = pairs(names[:8]) + lines[:number - 8]
         yield f"{number} rules, 4 even rings below", sheets.join([names, [], rules, []])
