@@ -48,10 +48,13 @@ def cells(crate, said):
 def function_at(crate, path, number):
     """The name of the function in which a line of a source stands, with its type's if it has one."""
     with open(os.path.join(ROOT, "crates", crate, path)) as source:
-        above = source.read().split("\n")[number - 1::-1]
+        lines = source.read().split("\n")
+    while lines[number - 1].lstrip().startswith(("#[", "//", "impl")):
+        number += 1
+    above = lines[number - 1::-1]
     inside = (re.match(r"(\s*)(?:pub(?:\(\w+\))? )?(?:const )?fn (\w+)", line) for line in above)
     indent, name = next(found.groups() for found in inside if found)
-    types = (re.match(r"impl(?:<.*?>)? (?:[\w:<>]+ for )?(\w+)", line) for line in above)
+    types = (re.match(r"impl(?:<.*?>)? (?:[\w:]+(?:<.*>)? for )?(\w+)", line) for line in above)
     return f"{next(found.group(1) for found in types if found)}::{name}" if indent else name
 
 
