@@ -16,10 +16,12 @@ ROOT = os.path.join(os.path.dirname(os.path.abspath(__file__)), "..")
 PAGE = os.path.join(ROOT, "docs", "PROOFS.md")
 HEAD = """## Planted bugs
 
-`crates/*/must-fail/` has edits that the prover must refuse; the gate tries each. Every one keeps the shape of the code and
-is refused because a fact no longer holds. What each changes, and what the check then no longer proves, the first that it names
+`crates/*/must-fail/` has edits that the prover must refuse; the gate tries each. Every one keeps the shape of the code and is meant to
+turn what it does. What each changes, and what the check then no longer proves, the first that it names
 (written by `tools/planted_bugs.py` from what the gate printed). A word after a colon names a clause. "Values show it": the
 check found values that the facts allow and at which the clause is false; "the sides differ": it worked out both sides of an equation.
+Where neither stands, the check says only that the clause is no longer proved, by its own search or by the answer that was written for
+it; that the clause is false of the planted code is then read off the change, and not shown.
 """
 REFUSED = re.compile(r"^rt: must-fail (\w+)/(\w+)\.edit: refused, as it must be: (.*)$", re.M)
 
@@ -124,6 +126,9 @@ def main():
                 said = lines.read()
             name = os.path.basename(edit)[:-5]
             text += f"| {name} | {' | '.join(cells(crate, said))} | {shown.get((crate, name), '')} |\n"
+    kinds = [said.rpartition("(")[2] for said in shown.values()]
+    values, sides = kinds.count("values show it)"), kinds.count("the sides differ)")
+    text += f"\nOf these {len(shown)} bugs values show {values}, the sides differ in {sides}, and of {len(shown) - values - sides} the check says only that.\n"
     with open(PAGE, "w") as page:
         page.write(text)
 

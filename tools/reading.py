@@ -37,6 +37,8 @@ def sheets():
     pairs = [a + b for a in "abcd" for b in string.ascii_lowercase]
     yield "64 names of one or two letters, 6848 words that name marks", sheet(pairs[:38] + list(string.ascii_lowercase), 32, 128, 64, 64)
     yield "64 names of two letters", sheet(pairs[:64], 20, 128, 40, 64)
+    middles = [a + b for a in "ab" for b in string.ascii_lowercase + string.digits][:64]
+    yield "64 names of nine letters, which begin and end alike", sheet([f"abcdaa{middle}e" for middle in middles], 0, 14, 20, 64)
     yield "64 names of 16 letters, which differ in the last two", sheet([f"abcdefghijklmn{i:02}" for i in range(64)], 0, 50, 0, 0)
 
 
