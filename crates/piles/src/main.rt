@@ -11,7 +11,7 @@ use frameworks::{Framework, RelayTable};
 use layers::{Berth, CutOut, Joined, TriggerTable};
 use programs::RuleProgram;
 use sheet::read;
-use std::io;
+use std::{fmt, io};
 use tables::table::Table;
 
 fn left() -> Framework {
@@ -54,9 +54,25 @@ fn read_by<R: Reading + Drop>(reading: R) -> Result<Bounds, BenchFault> {
     )
 }
 
+// What bounds are told of. Printed as it is: a text made of it first would take memory, which this program needs for nothing else.
+#[derive(Clone, Copy)]
+enum Title {
+    Reading(&'static str),
+    First(u16),
+}
+
+impl fmt::Display for Title {
+    fn fmt<W: fmt::Write>(&self, f: &mut fmt::Formatter<W>) -> fmt::Result {
+        match self {
+            Title::Reading(name) => f.write_str(name),
+            Title::First(place) => write!(f, "first {place}"),
+        }
+    }
+}
+
 fn print_bounds(
     rt: &impl Print,
-    title: &str,
+    title: Title,
     bounds: Result<Bounds, BenchFault>,
 ) -> io::Result<()> {
     match bounds {
@@ -70,14 +86,10 @@ fn print_bounds(
 }
 
 fn main(rt: HostRuntime) -> io::Result<()> {
-    print_bounds(&rt, "plain", read_by(Plain))?;
-    print_bounds(&rt, "bound", read_by(Bound))?;
+    print_bounds(&rt, Title::Reading("plain"), read_by(Plain))?;
+    print_bounds(&rt, Title::Reading("bound"), read_by(Bound))?;
     for first in [0, 5, 60, 61, 65535] {
-        print_bounds(
-            &rt,
-            &format!(in rt.alloc(); "first {first}")?,
-            berthed(pile(), first),
-        )?;
+        print_bounds(&rt, Title::First(first), berthed(pile(), first))?;
     }
     Ok(())
 }
