@@ -24,8 +24,10 @@ pub fn atom_of(text: &[u8], places: &[Place], word: &[u8]) -> Option<u8>
     ensures below { elim result [ None ↦ (0 ≤ 0) | Some atom ↦ (atom < length places.now) × (atom < 64) ] }
     ensures is { result ≡ atom_named text.now places.now word.now }
 {
-    let names = names_at(text, places);
-    named(names.as_slice(), word)
+    places[..places.len().min(MAX_ATOMS)]
+        .iter()
+        .position(|place| is_word(part(text, *place), word))
+        .map(|i| i as u8)
 }
 
 // The names that stand at the first 64 places, cut out of the text. There is room for each.

@@ -1,24 +1,19 @@
-use Rattle.std.proofs.Common.{◌≡◌, ◌<◌, ◌≤◌, ℕ, List, Bor, Option, Some, None, length, take, ap, ◌∙◌, arith}
-use Rattle.std.proofs.lemmas.List.{take_all, length-take, length-map}
-use Rattle.tables.specs.declared.table.Place.{Place}
-use Rattle.text.specs.Names.{part_of, names_of, parts, atom_among}
+use Rattle.std.proofs.Common.{◌≡◌, ℕ, length, take, min, rules, tests, ap, ◌∙◌}
+use Rattle.std.specs.Str.{bytes_eq}
+use Rattle.std.proofs.Math.Nat.{min_comm}
+use Rattle.std.proofs.lemmas.List.{take_min}
+use Rattle.std.proofs.lemmas.Iterator.{YieldsList-from_slice}
+use Rattle.std.proofs.lemmas.Iterator.Search.{position_from_yields_List}
+use Rattle.text.specs.Names.{part_of}
+use Rattle.text.proofs.Finds.{called}
 use Rattle.text.proofs.names.atom_of.Goals as goal
-
--- no more names than places, and at most 64
-few : (text : List ℕ) (places : List Place) (names : List (Bor (List ℕ))) → parts names ≡ names_of text (take 64 places) → length names ≤ length places
-few text places names cut = omega (arith, length-map names (λ (name : Bor (List ℕ)). name.now), ap length cut, length-map (take 64 places) (part_of text), length-take 64 places)
-
-below_more : (r : Option ℕ) (n m : ℕ) → n ≤ m → elim r as (λ _. Type 0) [ None ↦ 0 ≤ 0 | Some atom ↦ (atom < n) × (atom < 64) ] → elim r as (λ _. Type 0) [ None ↦ 0 ≤ 0 | Some atom ↦ (atom < m) × (atom < 64) ]
-below_more None n m more h = h
-below_more (Some atom) n m more h = let first : atom < n = h.0 in (omega (arith, first), h.1)
-
-pub returns-clause-below : goal.returns-clause-below
-returns-clause-below c =
-    below_more c.named.result (length c.as_slice.result.now) (length c.args.places.now) (few c.args.text.now c.args.places.now c.as_slice.result.now (ap parts c.as_slice.ensures.is ∙ c.names_at-names.ensures)) c.named.ensures.below
 
 pub returns-clause-is : goal.returns-clause-is
 returns-clause-is c =
-    let all : take 64 c.as_slice.result.now ≡ _ = take_all 64 c.as_slice.result.now c.as_slice.ensures.few ∙ c.as_slice.ensures.is in
-    c.named.ensures.is
-    ∙ ap (λ names. atom_among 0 (parts names) c.args.word.now) all
-    ∙ ap (λ names. atom_among 0 names c.args.word.now) c.names_at-names.ensures
+    let same : c.map.result ≡ c.position.result = search rules in
+    let few : c.min.result ≡ min (length c.args.places.now) 64 = c.min.ensures in
+    let first : take c.min.result c.args.places.now ≡ take 64 c.args.places.now =
+    ap (λ (n : ℕ). take n c.args.places.now) (few ∙ min_comm (length c.args.places.now) 64) ∙ take_min 64 c.args.places.now in
+    same
+    ∙ position_from_yields_List (λ place. bytes_eq (part_of c.args.text.now place) c.args.word.now) _ _ _ c.position.ensures.ran (YieldsList-from_slice (take 64 c.args.places.now) (c.iter.ensures.rest ∙ first)) (λ x b q k. search (rules, tests))
+    ∙ called (part_of c.args.text.now) c.args.word.now (take 64 c.args.places.now)

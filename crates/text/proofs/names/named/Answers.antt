@@ -15,4 +15,4 @@ returns-clause-is c =
     ap (λ (n : ℕ). take n c.args.names.now) (few ∙ min_comm (length c.args.names.now) 64) ∙ take_min 64 c.args.names.now in
     same
     ∙ position_from_yields_List (λ name. bytes_eq name.now c.args.word.now) _ _ _ c.position.ensures.ran (YieldsList-from_slice (take 64 c.args.names.now) (c.iter.ensures.rest ∙ first)) (λ x b q k. search (rules, tests))
-    ∙ called c.args.word.now (take 64 c.args.names.now)
+    ∙ called (λ name. name.now) c.args.word.now (take 64 c.args.names.now)
