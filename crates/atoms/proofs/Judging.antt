@@ -1,6 +1,6 @@
 -- A set that grows by one atom after another, as each is judged.
-use Rattle.std.proofs.Common.{◌≡◌, ℕ, ◌+◌, ◌^◌, ◌<◌, Bool, true, false, eqb, sym, ap, ◌∙◌, subst, inl, inr, pow-suc, one-add, add-one, arith, pow_pos, lt_of_lt_of_le, pow_mono}
-use lib.Bits.{bit_or, or_lt}
+use Rattle.std.proofs.Common.{◌≡◌, ℕ, ◌+◌, ◌^◌, ◌<◌, Bool, true, false, cond, eqb, sym, ap, ◌∙◌, subst, inl, inr, pow-suc, one-add, add-one, arith, pow_pos, lt_of_lt_of_le, pow_mono}
+use lib.Bits.{bit_or, or_lt, or_zero_r}
 use Rattle.std.proofs.lemmas.Bool.{cases_eq, cases_lt, eqb-true, eq-eqb, ne_eqb}
 use Rattle.atoms.specs.Sets.{digit, Has, has, clipped, collected}
 use Rattle.atoms.proofs.Digits.{has_or_l, has_or_r, has_or_cases, low_digit, pow_has, pow_only, pow_mod_same, same_digit}
@@ -50,6 +50,10 @@ module _ {P : ℕ → Bool → Type 0} {n s : ℕ} (judged : Judged P n s) where
       | inr d ↦ subst (P i) (sym (old i (omega arith))) (judged.has i (omega arith))
     ];
   })
+
+  pub judged_next : {a : ℕ} (b : Bool) → a ≡ cond b (clipped 64 (2 ^ n)) 0 → n < 64 → P n b → Judged P (n + 1) (bit_or s a)
+  judged_next true e k p = judged_in e k p
+  judged_next false e k p = subst (λ (x : ℕ). Judged P (n + 1) x) (sym (ap (bit_or s) e ∙ or_zero_r s)) (judged_out p)
 
 -- where the judgement is that of a test, the set is what the test collects
 pub judged_collected : (p : ℕ → Bool) {n s : ℕ} → Judged (λ i b. b ≡ p i) n s → s ≡ collected p n

@@ -1,5 +1,5 @@
 // Sets of atoms: atom i is in a set where its binary digit i is one.
-ghost use Rattle.std.specs.Prelude.{◌≡◌, ℕ, ◌-◌, ◌%◌, ◌^◌, ◌<◌, min, Decides, MatchOption};
+ghost use Rattle.std.specs.Prelude.{◌≡◌, ℕ, ◌-◌, ◌%◌, ◌^◌, ◌<◌, min, Decides, MatchOption, if◌then◌else◌};
 ghost use Rattle.atoms.specs.Sets.{has, Within, Lowest, width_read, all_below, clipped};
 
 // A set of atoms: those that are on.
@@ -51,6 +51,13 @@ pub fn only(atom: u8) -> Interpretation
     if atom < 64 { 1 << atom } else { 0 }
 }
 
+// The atom alone if it is chosen, and no atom otherwise.
+fn only_if(chosen: bool, atom: u8) -> Interpretation
+    ensures { result ≡ (if chosen then clipped 64 (2 ^ atom) else 0) }
+{
+    if chosen { only(atom) } else { 0 }
+}
+
 // The atoms below the width for which it holds; there are 64 atoms. A loop, since a chain would keep no word of what was
 // answered for the atoms that are left out.
 pub fn those<F: Fn(u8) -> bool>(width: u8, holds: F) -> Interpretation
@@ -60,9 +67,7 @@ pub fn those<F: Fn(u8) -> bool>(width: u8, holds: F) -> Interpretation
 {
     let mut set: Interpretation = 0;
     for atom in 0..width.min(64) {
-        if holds(atom) {
-            set |= only(atom);
-        }
+        set |= only_if(holds(atom), atom);
     }
     set
 }

@@ -44,7 +44,11 @@ impl RelayTable {
         requires { atom < 64 }
         ensures { result ≡ stands self.now against atom }
     {
-        self.lines[atom as usize].is_some_and(|attackers| attackers & against == 0)
+        // by reference: a copy of the row would read the attackers of an atom that has no line, too
+        match &self.lines[atom as usize] {
+            Some(attackers) => *attackers & against == 0,
+            None => false,
+        }
     }
 
     // The atoms below the width that have a line none of whose attackers is in the set.

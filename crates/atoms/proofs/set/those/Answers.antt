@@ -1,17 +1,12 @@
-use Rattle.std.proofs.Common.{◌≡◌, ℕ, ◌+◌, ◌<◌, min, sym, subst, arith}
-use Rattle.atoms.proofs.Judging.{Judged, judged_in, judged_out}
+use Rattle.std.proofs.Common.{◌≡◌, ℕ, ◌+◌, ◌<◌, min, subst, arith}
+use Rattle.atoms.proofs.Judging.{Judged, judged_next}
 use Rattle.atoms.proofs.set.those.Given as given
 use Rattle.atoms.proofs.set.those.Goals as goal
-use Rattle.atoms.proofs.set.those.Goals.{then-holds, else-holds}
 
 pub loop-atom-preserved : goal.loop-atom-preserved
 loop-atom-preserved g c =
     let room : c.loop-atom.atom < 64 = omega (arith, c.loop-atom-test.true, c.min-atom-end.ensures) in
-    let grown : ℕ → Type 0 = Judged (given.F-post g c.args.holds) (c.loop-atom.atom + 1) in
-    elim c.if-holds.branch [
-      | then-holds w ↦ subst grown (sym w.set-is) (judged_in c.loop-atom.invariant w.only-set.ensures room w.if-holds.ensures)
-      | else-holds w ↦ subst grown (sym w.set-is) (judged_out c.loop-atom.invariant w.if-holds.ensures)
-    ]
+    judged_next c.loop-atom.invariant c.holds.result c.only_if-set.ensures room c.holds.ensures
 
 whole : (g : given.Over) (c : goal.After-drop-holds g) → Judged (given.F-post g c.args.holds) (min c.args.width 64) c.loop-atom.set
 whole g c =
