@@ -97,3 +97,48 @@ module _ {f : ℕ → ℕ} {start top : ℕ} (r : Rises f start top) where
 
     pub way_less : (d ≡ c → ⊥) → c < d
     way_less n = within_lt (within_trans w.rises (within_eq (sym e))) (λ q. n (sym q))
+
+-- ---- the same of each of the two climbs, where a way is known of it and not that it rises to a top
+-- the climb to a lower has come to c: a question under u, within what follows it, and on the way from no atom
+pub record LowerWay (m : Meaning) (u c : ℕ) : Type 0 where
+  pub inside : Within c u
+  pub rises : Within c (m.sure c u)
+  pub leads : (d : ℕ) → Climbs (λ x. m.sure x u) c d → Climbs (λ x. m.sure x u) 0 d
+
+-- the climb to an upper has come to c: a question over l, within what follows it, and on the way from l
+pub record UpperWay (m : Meaning) (l c : ℕ) : Type 0 where
+  pub over : Within l c
+  pub rises : Within c (m.may l c)
+  pub leads : (d : ℕ) → Climbs (λ x. m.may l x) c d → Climbs (λ x. m.may l x) l d
+
+module _ {m : Meaning} (laws : Lawful m) where
+  pub lower_start : (u : ℕ) → LowerWay m u 0
+  lower_start u = record { inside = zero_within u; rises = zero_within (m.sure 0 u); leads = λ d r. r }
+
+  module _ {u c d : ℕ} (w : LowerWay m u c) (e : d ≡ m.sure c u) where
+    pub lower_turn : Within (m.sure u u) u → (d ≡ c → ⊥) → LowerWay m u d
+    lower_turn p n =
+        let step : Within (m.sure c u) u = within_trans (sure_up laws w.inside (within_refl u)) p in
+        let up : Within (m.sure c u) (m.sure (m.sure c u) u) = sure_up laws w.rises step in
+        subst (LowerWay m u) (sym e) (record { inside = step; rises = up; leads = λ d r. w.leads d (goes (λ q. n (e ∙ q)) r) })
+
+    pub lower_end : d ≡ c → Climbs (λ x. m.sure x u) 0 c
+    lower_end n = w.leads c (rests (sym e ∙ n))
+
+    pub lower_less : (d ≡ c → ⊥) → c < d
+    lower_less n = within_lt (within_trans w.rises (within_eq (sym e))) (λ q. n (sym q))
+
+  pub upper_start : (l : ℕ) → Within l (m.may l l) → UpperWay m l l
+  upper_start l p = record { over = within_refl l; rises = p; leads = λ d r. r }
+
+  module _ {l c d : ℕ} (w : UpperWay m l c) (e : d ≡ m.may l c) where
+    pub upper_turn : (d ≡ c → ⊥) → UpperWay m l d
+    upper_turn n =
+        let up : Within (m.may l c) (m.may l (m.may l c)) = may_up laws w.over w.rises in
+        subst (UpperWay m l) (sym e) (record { over = within_trans w.over w.rises; rises = up; leads = λ d r. w.leads d (goes (λ q. n (e ∙ q)) r) })
+
+    pub upper_end : d ≡ c → Climbs (λ x. m.may l x) l c
+    upper_end n = w.leads c (rests (sym e ∙ n))
+
+    pub upper_less : (d ≡ c → ⊥) → c < d
+    upper_less n = within_lt (within_trans w.rises (within_eq (sym e))) (λ q. n (sym q))

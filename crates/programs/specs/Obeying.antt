@@ -1,5 +1,5 @@
 -- The laws of an approximator, for every reading that keeps its own.
-use Rattle.std.proofs.Common.{◌≡◌, ℕ, ◌^◌, true, sym, ap, ◌∙◌, ap₂, inl, inr, arith}
+use Rattle.std.proofs.Common.{◌≡◌, ℕ, ◌^◌, true, false, sym, ap, ◌∙◌, ap₂, inl, inr, arith}
 use native.Mathlib.Nat.{mod-mod}
 use Rattle.std.proofs.lemmas.Bool.{cases_Bool, both_ways}
 use Rattle.atoms.specs.Sets.{Within, clipped}
@@ -16,7 +16,12 @@ use Rattle.programs.specs.declared.clause.Grounds.{Grounds}
 use Rattle.programs.specs.declared.rules.RuleTable.{RuleTable}
 use Rattle.programs.specs.Following.{derived_up, derived_below, passing_up}
 
-module _ {sure may : Verdict} (honest : Laws sure may) (t : RuleTable) where
+-- what is needed of the verdicts of a reading, and its laws give: on equal bounds one answer, whether it is the truth or not
+record Honest (sure may : Verdict) : Type 0 where
+  truth : (a : Aggregate) (z : ℕ) → sure a z z ≡ may a z z
+  precise : (a : Aggregate) (l k v u : ℕ) → Within l k → Within k v → Within v u → (sure a l u ≡ true → sure a k v ≡ true) × (may a l u ≡ false → may a k v ≡ false)
+
+module _ {sure may : Verdict} (honest : Honest sure may) (t : RuleTable) where
   abbrev cut : ℕ → ℕ
   cut s = clipped (width_of t) s
 
@@ -27,13 +32,10 @@ module _ {sure may : Verdict} (honest : Laws sure may) (t : RuleTable) where
   widens : (a : Aggregate) {l k v u : ℕ} → Within l k → Within k v → Within v u → may a k v ≡ true → may a l u ≡ true
   widens a {l} {k} {v} {u} p q r e = elim (cases_Bool (may a l u)) [ inl y ↦ y | inr n ↦ absurd (both_ways (may a k v) ((honest.precise a l k v u p q r).1 n) e) ]
 
-  same : (a : Aggregate) (z : ℕ) → sure a z z ≡ may a z z
-  same a z = let h = honest.truth a z in h.0 ∙ sym h.1
-
   same_passing : (z : ℕ) → passing (λ a. sure a z z) (aggregates_of t) ≡ passing (λ a. may a z z) (aggregates_of t)
   same_passing z = within_antisym
-      (passing_up (λ a. sure a z z) (λ a. may a z z) (aggregates_of t) (λ a e. sym (same a z) ∙ e))
-      (passing_up (λ a. may a z z) (λ a. sure a z z) (aggregates_of t) (λ a e. same a z ∙ e))
+      (passing_up (λ a. sure a z z) (λ a. may a z z) (aggregates_of t) (λ a e. sym (honest.truth a z) ∙ e))
+      (passing_up (λ a. may a z z) (λ a. sure a z z) (aggregates_of t) (λ a e. honest.truth a z ∙ e))
 
   -- what a rule is held against between two bounds
   abbrev on : Verdict → ℕ → ℕ → ℕ → ℕ → Grounds
@@ -60,4 +62,6 @@ module _ {sure may : Verdict} (honest : Laws sure may) (t : RuleTable) where
 
 -- the meaning of every program keeps the laws, by the laws of its reading
 pub program_lawful : {X : Type 0} (G : Ghosts X) → ((r : X) → Laws (G.sure r) (G.may r)) → (p : RuleProgram X) → Lawful (program_meaning G p)
-program_lawful G laws p = table_lawful (laws p.reading) p.table
+program_lawful G laws p =
+    let own = laws p.reading in
+    table_lawful (record { truth = λ a z. let h = own.truth a z in h.0 ∙ sym h.1; precise = own.precise }) p.table

@@ -1,8 +1,8 @@
--- Lists in listing order: put together, of none, of one only and of two parts, and that there is one list only.
-use Rattle.std.proofs.Common.{◌≡◌, ℕ, ◌⊎◌, List, [], ◌∷◌, ◌++◌, sym, refl, ◌∙◌, subst, ap₂, inl, inr}
+-- Lists in listing order: put together, of none, of one only and of two parts, and that there is one list and one count only.
+use Rattle.std.proofs.Common.{◌≡◌, ℕ, ◌⊎◌, List, [], ◌∷◌, ◌++◌, length, sym, refl, ap, ◌∙◌, subst, ap₂, inl, inr}
 use Rattle.atoms.specs.Order.{Before}
 use Rattle.atoms.proofs.Ordering.{before_trans, before_irrefl}
-use Rattle.solver.specs.Lists.{In, AheadOf, Ordered, Lists}
+use Rattle.solver.specs.Lists.{In, AheadOf, Ordered, Lists, Counted}
 use Rattle.solver.specs.Search.{Only, Joins}
 
 -- ---- one list after another
@@ -73,3 +73,7 @@ same_ordered (x ∷ xs) (y ∷ ys) o p f g =
 module _ {P : ℕ → Type 0} {xs : List ℕ} (l : Lists P xs) where
   pub same_lists : {ys : List ℕ} → Lists P ys → xs ≡ ys
   same_lists {ys} k = same_ordered xs ys l.ordered k.ordered (λ x i. k.whole x (l.sound x i)) (λ x i. l.whole x (k.sound x i))
+
+  -- any count is the length of the list
+  pub tally_is : {n : ℕ} → Counted P n → length xs ≡ n
+  tally_is c = ap length (same_lists c.held) ∙ c.long

@@ -1,5 +1,6 @@
 -- Bytes that are cut at a byte: the first piece, and what is left after it.
 use Rattle.std.proofs.Common.{◌≡◌, ℕ, suc, ◌+◌, ◌-◌, ◌<◌, ◌≤◌, true, false, cond, not, eqb, ltb, List, [], ◌∷◌, length, get_or, take, drop, sym, subst, refl, ap, ◌∙◌, ⊎_elim, arith}
+use native.Mathlib.Nat.{sub-zero}
 use Rattle.std.proofs.lemmas.List.{drop-drop, take_rest, length-drop, length-take-le, at_drop_all}
 use Rattle.std.proofs.lemmas.List.Sums.{position_or_len_is}
 use Rattle.std.proofs.lemmas.Bool.{eq-eqb, ne_eqb, cases_lt, lt-ltb, le-ltb}
@@ -42,6 +43,22 @@ pub cut_first : (stop : ℕ) (text : List ℕ) (at n : ℕ) → let left : List 
 cut_first stop text at n inside within before found =
     rw (length-take-le n _ within, take_rest text at, ← drop-drop)
     (cut_at stop (drop at text) n (simp length-drop (omega arith)) (rw take_rest at within) (rw take_rest at before) (rw take_rest at found))
+
+-- what is cut at a position ends within the text
+module _ (stop : ℕ) (text : List ℕ) (at n : ℕ) where
+  abbrev left : List ℕ
+  left = take (length text - at) (drop at text)
+
+  abbrev part : List ℕ
+  part = take (n - 0) left
+
+  length_part : n ≤ length left → length part ≡ n
+  length_part u = rw sub-zero (length-take-le n left u)
+
+  pub cut_within : at < length text → n ≤ length left → at + length part ≤ length text
+  cut_within w u =
+      let m : n ≤ length text - at = rw (take_rest text at, length-drop) at u in
+      omega (arith, length_part u)
 
 -- a line is left where a byte is left
 module _ (number : ℕ) (text : List ℕ) (at : ℕ) where
